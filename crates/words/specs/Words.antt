@@ -1,0 +1,80 @@
+-- "Words of the book": the limits, values and marks, the layout, the read and the conditional swap.
+use Prim.Native.Nat.{ℕ, _+_, _*_, _-_, _^_}
+use mathlib.Core.List.{List}
+use mathlib.Core.Bool.{Bool, cond}
+use lib.ListN.{getD, set}
+use lib.Dec.{eqb, ltb, leb}
+
+-- A book's words, lent by the caller.
+abbrev pub Words : Type 0
+Words = List ℕ
+
+-- A book is 4,096 words.
+abbrev pub wordsInBook : ℕ
+wordsInBook = 4096
+
+-- A value is below 2^63.
+abbrev pub isValue : ℕ → Bool
+isValue x = ltb x (2 ^ 63)
+
+-- A word of 2^63 or more is held.
+abbrev pub isHeld : ℕ → Bool
+isHeld x = leb (2 ^ 63) x
+
+-- A word of 2^63 + t is held by team t: its mark (in the source document, the descriptor's address with its control bit).
+abbrev pub markOf : ℕ → ℕ
+markOf team = 2 ^ 63 + team
+
+-- Teams 0 to 15.
+abbrev pub teamCount : ℕ
+teamCount = 16
+
+-- A ticket has room for six targets.
+abbrev pub mostTargets : ℕ
+mostTargets = 6
+
+-- Passages 0 to 31.
+abbrev pub passageCount : ℕ
+passageCount = 32
+
+-- Passage p has word 2p, its newest leg,
+abbrev pub newestWord : ℕ → ℕ
+newestWord passage = 2 * passage
+
+-- and word 2p + 1, its count of legs.
+abbrev pub countWord : ℕ → ℕ
+countWord passage = newestWord passage + 1
+
+-- Legs 1 to 1,344; leg number 0 means none.
+abbrev pub lastLeg : ℕ
+lastLeg = 1344
+
+-- The legs' words start at 64, behind those of the passages.
+abbrev pub firstLegWord : ℕ
+firstLegWord = newestWord passageCount
+
+-- Leg r has three words from 64 + 3(r − 1): link, place, measure. The link is the next older leg of the passage.
+abbrev pub linkWord : ℕ → ℕ
+linkWord leg = firstLegWord + 3 * (leg - 1)
+
+abbrev pub placeWord : ℕ → ℕ
+placeWord leg = linkWord leg + 1
+
+abbrev pub measureWord : ℕ → ℕ
+measureWord leg = linkWord leg + 2
+
+-- The read (source document 000, Figure 8): one word.
+abbrev pub readOf : Words → ℕ → ℕ
+readOf words at = getD words at 0
+
+-- What a conditional swap leaves: the word it found, and the words.
+pub record Swap : Type 0 where
+  pub found : ℕ
+  pub words : Words
+
+-- The conditional swap, also called compare-and-swap (Figure 1): the word found is returned, and becomes `desired` exactly where it is `expected`.
+abbrev pub swapOf : Words → ℕ → ℕ → ℕ → Swap
+swapOf words at expected desired = record {
+  found = readOf words at;
+  words = cond (eqb (readOf words at) expected) (set words at desired) words;
+}

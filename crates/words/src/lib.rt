@@ -1,0 +1,103 @@
+// The words of the book: limits, the layout, marks, the conditional swap and the read.
+ghost use mathlib.Core.Path.{_≡_};
+ghost use mathlib.Core.Bool.{Bool, true};
+ghost use Prim.Native.Nat.{_≤_, _<_};
+ghost use lib.ListN.{length};
+ghost use Rattle.words.specs.Words.{teamCount, passageCount, lastLeg, isHeld, markOf, newestWord, countWord, linkWord, placeWord, measureWord, readOf, swapOf};
+
+// Every limit of the book stands here, once.
+pub struct Limits {}
+
+impl Limits {
+    // The words of a book.
+    pub const WORDS: usize = 4096;
+
+    pub const PASSAGES: u16 = 32;
+
+    pub const TEAMS: usize = 16;
+
+    // The last leg's number; legs start at 1, and 0 means none.
+    pub const LAST_LEG: u16 = 1344;
+
+    // The most targets that a ticket has room for.
+    pub const TARGETS: usize = 6;
+
+    // A word from here on is held; below it, a value.
+    pub const HELD: u64 = 9223372036854775808;
+
+    // A passage's words: the newest leg, the count of legs.
+    pub const PASSAGE_WORDS: u16 = 2;
+
+    // A leg's words: link, place, measure.
+    pub const LEG_WORDS: u16 = 3;
+}
+
+pub fn is_held(word: u64) -> bool
+    ensures { λ r. ⌜ r ≡ isHeld word ⌝ }
+{
+    Limits::HELD <= word
+}
+
+// The mark (in the literature: the descriptor's address with its control bit) of a team.
+pub fn mark(team: u16) -> u64
+    requires { ⌜ team < teamCount ⌝ }
+    ensures { λ r. ⌜ r ≡ markOf team ⌝ }
+{
+    Limits::HELD + team as u64
+}
+
+pub fn newest_word(passage: u16) -> u16
+    requires { ⌜ passage < passageCount ⌝ }
+    ensures { λ r. ⌜ r ≡ newestWord passage ⌝ }
+{
+    Limits::PASSAGE_WORDS * passage
+}
+
+pub fn count_word(passage: u16) -> u16
+    requires { ⌜ passage < passageCount ⌝ }
+    ensures { λ r. ⌜ r ≡ countWord passage ⌝ }
+{
+    newest_word(passage) + 1
+}
+
+pub fn link_word(leg: u16) -> u16
+    requires { ⌜ (1 ≤ leg) × (leg ≤ lastLeg) ⌝ }
+    ensures { λ r. ⌜ r ≡ linkWord leg ⌝ }
+{
+    Limits::PASSAGE_WORDS * Limits::PASSAGES + Limits::LEG_WORDS * (leg - 1)
+}
+
+pub fn place_word(leg: u16) -> u16
+    requires { ⌜ (1 ≤ leg) × (leg ≤ lastLeg) ⌝ }
+    ensures { λ r. ⌜ r ≡ placeWord leg ⌝ }
+{
+    link_word(leg) + 1
+}
+
+pub fn measure_word(leg: u16) -> u16
+    requires { ⌜ (1 ≤ leg) × (leg ≤ lastLeg) ⌝ }
+    ensures { λ r. ⌜ r ≡ measureWord leg ⌝ }
+{
+    link_word(leg) + 2
+}
+
+// One read of one word (Figure 8, without its loop).
+pub fn read(book: &[u64], at: usize) -> u64
+    requires { ⌜ at < length (now book) ⌝ }
+    ensures { λ r. ⌜ r ≡ readOf (now (book .entry)) at ⌝ }
+{
+    book[at]
+}
+
+// The conditional swap, also called compare-and-swap (Figure 1): returns the word found.
+pub fn conditional_swap(book: &mut [u64], at: usize, expected: u64, desired: u64) -> u64
+    requires { ⌜ at < length (now book) ⌝ }
+    ensures found { λ r. ⌜ r ≡ swapOf (now (book .entry)) at expected desired .found ⌝ }
+    ensures words { λ r. ⌜ now (book .exit) ≡ swapOf (now (book .entry)) at expected desired .words ⌝ }
+{
+    let found = book[at];
+    if found == expected {
+        book[at] = desired;
+    }
+    found
+}
