@@ -1,0 +1,79 @@
+-- Examples computed: the ends of the ranges are read back, and what is no leg's words reads as none. Examples 1 to 4, 8 and 9 of the scope.
+use Prim.Native.Nat.{ℕ}
+use mathlib.Core.Path.{_≡_, refl}
+use lib.IntN.{ℤ, pos, negsuc}
+use Rattle.words.specs.Tests.{allHold}
+use Rattle.words.specs.Words.{measureWord}
+use Rattle.legs.specs.declared.Leg.{Leg}
+use Rattle.legs.specs.declared.Reading.{Reading}
+use Rattle.legs.specs.declared.Reading.the-variants.{NoLeg, Is}
+use Rattle.legs.specs.Legs.{clinoOffset, placeOf, measureOf, placeInRange, measureInRange}
+use Rattle.legs.specs.Reading.{isPlace, isMeasure, readingOf}
+use Rattle.legs.specs.Positions.{positionOf}
+
+abbrev leg : ℕ → ℕ → ℕ → ℕ → ℕ → ℤ → Leg
+leg passage from to distance compass clino = record {
+  passage = passage;
+  stations = record { from = from; to = to };
+  measure = record { distance = distance; compass = compass; clino = clino };
+}
+
+-- The leg of the whole case: 1 to 2, 5,000 mm, 90.00°, −1.50°.
+abbrev thatLeg : Leg
+thatLeg = leg 0 1 2 5000 9000 (negsuc 149)
+
+example-1 : measureOf (thatLeg .measure) ≡ 76022100792200
+example-1 = refl
+
+example-2 : placeOf 0 (thatLeg .stations) ≡ 8388673
+example-2 = refl
+
+-- Leg 1,344 ends at word 4,095.
+example-3 : measureWord 1344 ≡ 4095
+example-3 = refl
+
+-- Clino −9,000 adds 0.
+example-4 : clinoOffset (negsuc 8999) ≡ 0
+example-4 = refl
+
+-- Word 50 has position 0, word 0 has 6.
+example-8 : positionOf 50 ≡ 0
+unfolding positionOf
+example-8 = refl
+
+example-9 : positionOf 0 ≡ 6
+unfolding positionOf
+example-9 = refl
+
+-- The same two words, read.
+that-leg-read : readingOf 8388673 76022100792200 ≡ Is thatLeg
+unfolding readingOf isPlace isMeasure placeInRange measureInRange allHold
+that-leg-read = refl
+
+abbrev readBack : Leg → Reading
+readBack leg = readingOf (placeOf (leg .passage) (leg .stations)) (measureOf (leg .measure))
+
+largest : readBack (leg 31 65535 65534 100000 35999 (pos 9000)) ≡ Is (leg 31 65535 65534 100000 35999 (pos 9000))
+unfolding readingOf isPlace isMeasure placeInRange measureInRange allHold
+largest = refl
+
+smallest : readBack (leg 0 0 1 1 0 (negsuc 8999)) ≡ Is (leg 0 0 1 1 0 (negsuc 8999))
+unfolding readingOf isPlace isMeasure placeInRange measureInRange allHold
+smallest = refl
+
+-- The words of an unused leg.
+zeros : readingOf 0 0 ≡ NoLeg
+unfolding readingOf isPlace isMeasure placeInRange measureInRange allHold
+zeros = refl
+
+from-is-to : readBack (leg 0 7 7 5000 9000 (negsuc 149)) ≡ NoLeg
+unfolding readingOf isPlace isMeasure placeInRange measureInRange allHold
+from-is-to = refl
+
+passage-32 : readBack (leg 32 1 2 5000 9000 (negsuc 149)) ≡ NoLeg
+unfolding readingOf isPlace isMeasure placeInRange measureInRange allHold
+passage-32 = refl
+
+clino-9001 : readBack (leg 0 1 2 5000 9000 (pos 9001)) ≡ NoLeg
+unfolding readingOf isPlace isMeasure placeInRange measureInRange allHold
+clino-9001 = refl
