@@ -1,0 +1,13 @@
+pub mod Made
+pub mod Settled
+pub mod Slots
+pub mod TargetLists
+pub mod Changing
+pub mod Keeping
+pub mod Outcomes
+pub mod Opening
+pub mod Stepping
+pub mod Looking
+pub mod WellMade
+pub mod Tries
+mod Examples

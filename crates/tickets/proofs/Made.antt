@@ -1,0 +1,136 @@
+-- What a well-made ticket says of its counts and targets, as facts on numbers; and the test of its targets, one after the other.
+use Prim.Native.Nat.{ℕ, zero, suc, _+_, _-_, _^_, _≤_, _<_}
+use mathlib.Core.Path.{_≡_, refl, sym, ap, subst, _∙_}
+use mathlib.Core.List.{[], _∷_}
+use mathlib.Core.Bool.{Bool, true, false, cond, false≢true}
+use native.Mathlib.Omega.{arith}
+use native.Mathlib.Decide.{ℕ-discrete}
+use native.Mathlib.Nat.{not-suc-le-zero}
+use borrow.Author.Tests.{le-leb, lt-leb, leb-true, ltb-true}
+use lib.Dec.{leb, ltb}
+use Rattle.words.specs.Tests.{allHold, within}
+use Rattle.words.specs.Words.{wordsInBook, mostTargets, isValue}
+use Rattle.words.proofs.Tests.{split, join, next-test, failed-test, last-test}
+use Rattle.tickets.specs.declared.Target.{Target}
+use Rattle.tickets.specs.declared.Phase.{Phase}
+use Rattle.tickets.specs.declared.Phase.the-variants.{NoTicket, Claiming, Putting, GivingBack}
+use Rattle.tickets.specs.declared.Ticket.{Ticket}
+use Rattle.tickets.specs.Tickets.{targetAt, targetsFrom, targetsIn, targetWellMade, allWellMade, countsWellMade, wellMade}
+
+-- The targets' test, from target k on.
+pub peel : (ticket : Ticket) (n k : ℕ) → k < n → allWellMade (targetsFrom k (n - k) ticket) ≡ cond (targetWellMade (targetAt ticket k)) (allWellMade (targetsFrom (k + 1) (n - (k + 1)) ticket)) false
+unfolding allWellMade
+peel ticket n k l =
+    let one-more : n - k ≡ suc (n - (k + 1)) = omega arith in
+    ap (λ (m : ℕ). allWellMade (targetsFrom k m ticket)) one-more
+
+pub none-left : (ticket : Ticket) (n k : ℕ) → n ≤ k → allWellMade (targetsFrom k (n - k) ticket) ≡ true
+unfolding allWellMade
+none-left ticket n k l =
+    let none : n - k ≡ 0 = omega arith in
+    ap (λ (m : ℕ). allWellMade (targetsFrom k m ticket)) none
+
+-- The whole test, by its parts.
+pub too-few : (ticket : Ticket) → ticket .n < 1 → wellMade ticket ≡ false
+unfolding wellMade
+too-few ticket l = failed-test _ _ (failed-test _ _ (lt-leb 1 (ticket .n) l))
+
+pub too-many : (ticket : Ticket) → 1 ≤ ticket .n → mostTargets < ticket .n → wellMade ticket ≡ false
+unfolding wellMade
+too-many ticket least l = failed-test _ _ (next-test _ _ (le-leb 1 (ticket .n) least) ∙ failed-test _ _ (lt-leb (ticket .n) mostTargets l))
+
+in-number : (n : ℕ) → 1 ≤ n → n ≤ mostTargets → within 1 mostTargets n ≡ true
+in-number n least most = join (leb 1 n ∷ leb n mostTargets ∷ []) (le-leb 1 n least, (le-leb n mostTargets most, tt))
+
+pub bad-target : (ticket : Ticket) → 1 ≤ ticket .n → ticket .n ≤ mostTargets → allWellMade (targetsIn ticket) ≡ false → wellMade ticket ≡ false
+unfolding wellMade
+bad-target ticket least most bad = next-test _ _ (in-number (ticket .n) least most) ∙ failed-test _ _ bad
+
+pub by-counts : (ticket : Ticket) → 1 ≤ ticket .n → ticket .n ≤ mostTargets → allWellMade (targetsIn ticket) ≡ true → wellMade ticket ≡ countsWellMade (ticket .phase) (ticket .n) (ticket .claimed) (ticket .done)
+unfolding wellMade
+by-counts ticket least most good = next-test _ _ (in-number (ticket .n) least most) ∙ next-test _ _ good ∙ last-test _
+
+-- What makes a ticket well made.
+pub record WellMade (ticket : Ticket) : Type 0 where
+  pub many : within 1 mostTargets (ticket .n) ≡ true
+  pub targets : allWellMade (targetsIn ticket) ≡ true
+  pub counts : countsWellMade (ticket .phase) (ticket .n) (ticket .claimed) (ticket .done) ≡ true
+
+pub well-made-parts : (ticket : Ticket) → wellMade ticket ≡ true → WellMade ticket
+unfolding wellMade
+well-made-parts ticket made =
+    let (many, (targets, (counts, u))) = split (within 1 mostTargets (ticket .n) ∷ allWellMade (targetsIn ticket) ∷ countsWellMade (ticket .phase) (ticket .n) (ticket .claimed) (ticket .done) ∷ []) made in
+    record { many = many; targets = targets; counts = counts }
+
+pub parts-well-made : (ticket : Ticket) → WellMade ticket → wellMade ticket ≡ true
+unfolding wellMade
+parts-well-made ticket made =
+    join (within 1 mostTargets (ticket .n) ∷ allWellMade (targetsIn ticket) ∷ countsWellMade (ticket .phase) (ticket .n) (ticket .claimed) (ticket .done) ∷ []) (made .many, (made .targets, (made .counts, tt)))
+
+-- Its targets and counts, as facts.
+pub record TargetFits (target : Target) : Type 0 where
+  pub inside : target .word < wordsInBook
+  pub quoted-value : target .quoted < 2 ^ 63
+  pub new-value : target .new < 2 ^ 63
+
+pub target-fits : (target : Target) → targetWellMade target ≡ true → TargetFits target
+target-fits target h =
+    let (i, (q, (n, u))) = split (ltb (target .word) wordsInBook ∷ isValue (target .quoted) ∷ isValue (target .new) ∷ []) h in
+    record { inside = ltb-true _ _ i; quoted-value = ltb-true _ _ q; new-value = ltb-true _ _ n }
+
+both : (a b : Bool) → cond a b false ≡ true → (a ≡ true) × (b ≡ true)
+both true b e = (refl, e)
+both false b e = absurd (false≢true e)
+
+each-target : (ticket : Ticket) (from more : ℕ) → allWellMade (targetsFrom from more ticket) ≡ true → (k : ℕ) → from ≤ k → k < from + more → targetWellMade (targetAt ticket k) ≡ true
+unfolding allWellMade
+each-target ticket from zero h k least most = absurd (no-room from k least most)
+  where
+    no-room : (from k : ℕ) → from ≤ k → k < from + 0 → ⊥
+    no-room from k least most = omega arith
+each-target ticket from (suc more) h k least most =
+    let (here, later) = both (targetWellMade (targetAt ticket from)) (allWellMade (targetsFrom (from + 1) more ticket)) h in
+    elim (ℕ-discrete k from) [
+      | yes e ↦ ap (λ (j : ℕ). targetWellMade (targetAt ticket j)) e ∙ here
+      | no n ↦ each-target ticket (from + 1) more later k (omega arith) (omega arith)
+    ]
+
+pub record Made (ticket : Ticket) : Type 0 where
+  pub least : 1 ≤ ticket .n
+  pub most : ticket .n ≤ mostTargets
+  pub targets : (k : ℕ) → k < ticket .n → TargetFits (targetAt ticket k)
+  pub counts : countsWellMade (ticket .phase) (ticket .n) (ticket .claimed) (ticket .done) ≡ true
+
+pub made : (ticket : Ticket) → wellMade ticket ≡ true → Made ticket
+made ticket h =
+    let parts = well-made-parts ticket h in
+    let (least, (most, u)) = split (leb 1 (ticket .n) ∷ leb (ticket .n) mostTargets ∷ []) (parts .many) in
+    record {
+      least = leb-true _ _ least;
+      most = leb-true _ _ most;
+      targets = λ k l. target-fits (targetAt ticket k) (each-target ticket 0 (ticket .n) (parts .targets) k (omega arith) (omega arith));
+      counts = parts .counts;
+    }
+
+-- What the counts of a phase say.
+abbrev pub CountsFit : Phase → ℕ → ℕ → ℕ → Type 0
+CountsFit NoTicket n claimed done = ⊥
+CountsFit Claiming n claimed done = claimed < n
+CountsFit Putting n claimed done = done < n
+CountsFit GivingBack n claimed done = (done < claimed) × (claimed < n)
+
+pub counts-fit : (phase : Phase) (n claimed done : ℕ) → countsWellMade phase n claimed done ≡ true → CountsFit phase n claimed done
+counts-fit NoTicket n claimed done h = false≢true h
+counts-fit Claiming n claimed done h = ltb-true _ _ h
+counts-fit Putting n claimed done h = ltb-true _ _ h
+counts-fit GivingBack n claimed done h =
+    let (d, (c, u)) = split (ltb done claimed ∷ ltb claimed n ∷ []) h in
+    (ltb-true _ _ d, ltb-true _ _ c)
+
+-- The counts' test of a ticket in a known phase.
+pub counts-of : (ticket : Ticket) (phase : Phase) → ticket .phase ≡ phase → countsWellMade (ticket .phase) (ticket .n) (ticket .claimed) (ticket .done) ≡ countsWellMade phase (ticket .n) (ticket .claimed) (ticket .done)
+counts-of ticket phase e = ap (λ p. countsWellMade p (ticket .n) (ticket .claimed) (ticket .done)) e
+
+-- A well-made ticket in a known phase.
+pub counts-in : (ticket : Ticket) (phase : Phase) → ticket .phase ≡ phase → wellMade ticket ≡ true → CountsFit phase (ticket .n) (ticket .claimed) (ticket .done)
+counts-in ticket phase e h = subst (λ p. CountsFit p (ticket .n) (ticket .claimed) (ticket .done)) e (counts-fit (ticket .phase) (ticket .n) (ticket .claimed) (ticket .done) (made ticket h .counts))

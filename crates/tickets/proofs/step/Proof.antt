@@ -1,0 +1,43 @@
+-- `tickets::step` meets its contract: the swap that the ticket tries, once, and what it found settles the ticket.
+use denote.Ref.{now}
+use Rattle.tickets.proofs.Settled.{step-by}
+use borrow.Author.Needs.{needs}
+use Rattle.tickets.proofs.step.Statement.{statement}
+use Rattle.tickets.proofs.step.Tie as tie
+
+swap-tried-requires : tie.Need-swap-tried-requires
+swap-tried-requires c κs = search needs
+
+cast-at : tie.Need-cast-at
+cast-at c = search needs
+
+conditional-swap-requires : tie.Need-conditional-swap-requires
+conditional-swap-requires c κs = search needs
+
+settle-requires : tie.Need-settle-requires
+settle-requires c κs = search needs
+
+same-length : tie.Need-same-length
+same-length c = search needs
+
+returns : tie.Need-returns
+returns c =
+    let start = c .before .before .before .before .before .before .before .before in
+    let swap = c .before .before .before .conditional-swap in
+    let tried = c .before .before .before .before .before .before .swap-tried in
+    step-by (now (start .args .book)) (start .args .ticket) (start .args .team) (tried .result) (swap .result) (swap .last .0) (c .settle .result)
+    (tried .ensures .0)
+    (swap .ensures .0)
+    (swap .ensures .1)
+    (c .settle .ensures)
+
+pub step-spec : {M : Type 1} → statement M
+step-spec =
+    tie.close
+    (tie.spec
+    swap-tried-requires
+    cast-at
+    conditional-swap-requires
+    settle-requires
+    same-length
+    returns)

@@ -1,0 +1,4 @@
+pub mod Tickets
+pub mod Steps
+pub mod Targets
+pub mod Invariant

@@ -1,0 +1,388 @@
+// Tickets, one step of a ticket, and one look.
+ghost use mathlib.Core.Path.{_≡_};
+ghost use mathlib.Core.Bool.{Bool, true};
+ghost use Prim.Native.Nat.{ℕ, _+_, _≤_, _<_};
+ghost use lib.ListN.{length};
+ghost use Rattle.words.specs.Words.{wordsInBook, teamCount, mostTargets};
+ghost use Rattle.tickets.specs.declared.Phase.the-variants.{Claiming};
+ghost use Rattle.tickets.specs.Tickets.{noTicket, freshTickets, targetAt, hasTicket, targetWellMade, countsWellMade, wellMade};
+ghost use Rattle.tickets.specs.Steps.{tries, oneMoreTry, advanced, swapTried, claimed, put, givenBack, settledIn, settled, stepOf, lookOf};
+use words::Limits;
+
+// A word, the value that the edit quotes for it (in the source document: expected) and its new value (desired).
+pub struct Target {
+    pub word: u16,
+    pub quoted: u64,
+    pub new: u64,
+}
+
+// "No ticket" stands first: it is the phase of an empty slot.
+pub enum Phase {
+    NoTicket,
+    Claiming,
+    Putting,
+    GivingBack,
+}
+
+// A ticket (in the source document: a multi-word compare-and-swap descriptor). Its k-th target is the
+// k-th of words, quoted and new. So laid out, it is passed by value at little cost.
+pub struct Ticket {
+    pub quoted: [u64; Limits::TARGETS],
+    pub new: [u64; Limits::TARGETS],
+    pub words: [u16; Limits::TARGETS],
+    pub n: u16,
+    pub tries: u32,
+    pub claimed: u16,
+    pub done: u16,
+    pub phase: Phase,
+}
+
+// One slot for each team.
+pub struct Tickets {
+    pub slots: [Ticket; Limits::TEAMS],
+}
+
+// The conditional swap that a step tries.
+pub struct SwapTried {
+    pub word: u16,
+    pub expected: u64,
+    pub desired: u64,
+}
+
+pub enum StepAnswer {
+    Claimed(u16),
+    Waiting(u16),
+    Found(u16),
+    Put(u16),
+    Returned(u16),
+    Granted(u32),
+    Stale(u16, u32),
+}
+
+pub enum LookAnswer {
+    Held,
+    Value(u64),
+}
+
+// A ticket after a step, and the step's answer.
+pub struct Stepped {
+    pub ticket: Ticket,
+    pub answer: StepAnswer,
+}
+
+fn swap_of(word: u16, expected: u64, desired: u64) -> SwapTried
+    ensures { λ r. ⌜ r ≡ tries word expected desired ⌝ }
+{
+    SwapTried {
+        word: word,
+        expected: expected,
+        desired: desired,
+    }
+}
+
+impl Target {
+    // Its word is in the book, and its values are no marks.
+    fn well_made(self) -> bool
+        ensures { λ r. ⌜ r ≡ targetWellMade self ⌝ }
+    {
+        if (self.word as usize) < Limits::WORDS {
+            if self.quoted < Limits::HELD {
+                return self.new < Limits::HELD;
+            }
+        }
+        false
+    }
+}
+
+impl Ticket {
+    // Tries stops rising here.
+    pub const MOST_TRIES: u32 = 4294967295;
+
+    // The slot of a team with no ticket.
+    pub fn none() -> Ticket
+        ensures { λ r. ⌜ r ≡ noTicket ⌝ }
+    {
+        Ticket {
+            quoted: [0; Limits::TARGETS],
+            new: [0; Limits::TARGETS],
+            words: [0; Limits::TARGETS],
+            n: 0,
+            tries: 0,
+            claimed: 0,
+            done: 0,
+            phase: Phase::NoTicket,
+        }
+    }
+
+    // Whether this is a ticket, and no empty slot.
+    pub fn stands(self) -> bool
+        ensures { λ r. ⌜ r ≡ hasTicket (self .phase) ⌝ }
+    {
+        let phase = self.phase;
+        match phase {
+            Phase::NoTicket => false,
+            Phase::Claiming => true,
+            Phase::Putting => true,
+            Phase::GivingBack => true,
+        }
+    }
+
+    pub fn target(self, k: u16) -> Target
+        requires { ⌜ k < mostTargets ⌝ }
+        ensures { λ r. ⌜ r ≡ targetAt self k ⌝ }
+    {
+        let at = k as usize;
+        Target {
+            word: self.words[at],
+            quoted: self.quoted[at],
+            new: self.new[at],
+        }
+    }
+
+    // The counts are those of the phase.
+    fn counts_well_made(self) -> bool
+        ensures { λ r. ⌜ r ≡ countsWellMade (self .phase) (self .n) (self .claimed) (self .done) ⌝ }
+    {
+        let phase = self.phase;
+        match phase {
+            Phase::NoTicket => false,
+            Phase::Claiming => self.claimed < self.n,
+            Phase::Putting => self.done < self.n,
+            Phase::GivingBack => {
+                if self.done < self.claimed {
+                    self.claimed < self.n
+                } else {
+                    false
+                }
+            }
+        }
+    }
+
+    pub fn well_made(self) -> bool
+        ensures { λ r. ⌜ r ≡ wellMade self ⌝ }
+    {
+        let n = self.n;
+        if n < 1 {
+            return false;
+        }
+        if (Limits::TARGETS as u16) < n {
+            return false;
+        }
+        let mut k: u16 = 0;
+        while k < n {
+            if !self.target(k).well_made() {
+                return false;
+            }
+            k += 1;
+        }
+        self.counts_well_made()
+    }
+
+    // The tries after one more.
+    fn tried(self) -> u32
+        ensures { λ r. ⌜ r ≡ oneMoreTry (self .tries) ⌝ }
+    {
+        let tries = self.tries;
+        if tries < Ticket::MOST_TRIES {
+            tries + 1
+        } else {
+            tries
+        }
+    }
+
+    // The ticket after one more try, in a phase, with so many claimed and so many done.
+    fn advanced(self, phase: Phase, claimed: u16, done: u16) -> Ticket
+        ensures { λ r. ⌜ r ≡ advanced self phase claimed done ⌝ }
+    {
+        let quoted = self.quoted;
+        let new = self.new;
+        let words = self.words;
+        Ticket {
+            quoted: quoted,
+            new: new,
+            words: words,
+            n: self.n,
+            tries: self.tried(),
+            claimed: claimed,
+            done: done,
+            phase: phase,
+        }
+    }
+
+    // The conditional swap that the next step tries.
+    pub fn swap_tried(self, team: u16) -> SwapTried
+        requires { ⌜ (wellMade self ≡ true) × (team < teamCount) ⌝ }
+        ensures { λ r. ⌜ (r ≡ swapTried self team) × (r .word < wordsInBook) ⌝ }
+    {
+        let mark = words::mark(team);
+        let phase = self.phase;
+        match phase {
+            Phase::Claiming => {
+                let next = self.target(self.claimed);
+                swap_of(next.word, next.quoted, mark)
+            }
+            Phase::Putting => {
+                let next = self.target(self.done);
+                swap_of(next.word, mark, next.new)
+            }
+            Phase::GivingBack => {
+                let next = self.target(self.done);
+                swap_of(next.word, mark, next.quoted)
+            }
+            Phase::NoTicket => swap_of(0, 0, 0),
+        }
+    }
+
+    // One more word claimed: the ticket advanced, and putting once it has them all.
+    pub fn claim(self) -> Ticket
+        requires { ⌜ self .claimed < self .n ⌝ }
+        ensures { λ r. ⌜ r ≡ claimed self .ticket ⌝ }
+    {
+        let claimed = self.claimed + 1;
+        if claimed == self.n {
+            self.advanced(Phase::Putting, claimed, 0)
+        } else {
+            self.advanced(Phase::Claiming, claimed, self.done)
+        }
+    }
+
+    // One more target put: the ticket advanced, and gone with the last.
+    pub fn put(self) -> Ticket
+        requires { ⌜ self .done < self .n ⌝ }
+        ensures { λ r. ⌜ r ≡ put self .ticket ⌝ }
+    {
+        let done = self.done + 1;
+        if done == self.n {
+            Ticket::none()
+        } else {
+            self.advanced(Phase::Putting, self.claimed, done)
+        }
+    }
+
+    // One more word given back: the ticket advanced, and gone with the last.
+    pub fn give_back(self) -> Ticket
+        requires { ⌜ self .done < self .claimed ⌝ }
+        ensures { λ r. ⌜ r ≡ givenBack self .ticket ⌝ }
+    {
+        let given = self.done + 1;
+        if given == self.claimed {
+            Ticket::none()
+        } else {
+            self.advanced(Phase::GivingBack, self.claimed, given)
+        }
+    }
+
+    fn after_claim(self, found: u64) -> Stepped
+        requires { ⌜ (self .claimed < self .n) × (self .n ≤ mostTargets) ⌝ }
+        ensures { λ r. ⌜ r ≡ settledIn Claiming self found ⌝ }
+    {
+        let next = self.target(self.claimed);
+        if found == next.quoted {
+            return Stepped {
+                ticket: self.claim(),
+                answer: StepAnswer::Claimed(self.claimed + 1),
+            };
+        }
+        if words::is_held(found) {
+            return Stepped {
+                ticket: self.advanced(Phase::Claiming, self.claimed, self.done),
+                answer: StepAnswer::Waiting(next.word),
+            };
+        }
+        if self.claimed == 0 {
+            return Stepped {
+                ticket: Ticket::none(),
+                answer: StepAnswer::Stale(next.word, self.tried()),
+            };
+        }
+        Stepped {
+            ticket: self.advanced(Phase::GivingBack, self.claimed, 0),
+            answer: StepAnswer::Found(next.word),
+        }
+    }
+
+    fn after_put(self) -> Stepped
+        requires { ⌜ self .done < self .n ⌝ }
+        ensures { λ r. ⌜ r ≡ put self ⌝ }
+    {
+        let put = self.done + 1;
+        if put == self.n {
+            return Stepped {
+                ticket: self.put(),
+                answer: StepAnswer::Granted(self.tried()),
+            };
+        }
+        Stepped {
+            ticket: self.put(),
+            answer: StepAnswer::Put(put),
+        }
+    }
+
+    // The last names the word that differed, the first not claimed.
+    fn after_give_back(self) -> Stepped
+        requires { ⌜ (self .done < self .claimed) × (self .claimed < mostTargets) ⌝ }
+        ensures { λ r. ⌜ r ≡ givenBack self ⌝ }
+    {
+        let returned = self.done + 1;
+        if returned == self.claimed {
+            let differed = self.target(self.claimed);
+            return Stepped {
+                ticket: self.give_back(),
+                answer: StepAnswer::Stale(differed.word, self.tried()),
+            };
+        }
+        Stepped {
+            ticket: self.give_back(),
+            answer: StepAnswer::Returned(returned),
+        }
+    }
+
+    // The ticket and the answer after its swap, by the word found.
+    pub fn settle(self, found: u64) -> Stepped
+        requires { ⌜ wellMade self ≡ true ⌝ }
+        ensures { λ r. ⌜ r ≡ settled self found ⌝ }
+    {
+        let phase = self.phase;
+        match phase {
+            Phase::Claiming => self.after_claim(found),
+            Phase::Putting => self.after_put(),
+            Phase::GivingBack => self.after_give_back(),
+            Phase::NoTicket => self.after_give_back(),
+        }
+    }
+}
+
+impl Tickets {
+    // No team has a ticket.
+    pub fn fresh() -> Tickets
+        ensures { λ r. ⌜ r ≡ freshTickets ⌝ }
+    {
+        Tickets {
+            slots: [Ticket::none(); Limits::TEAMS],
+        }
+    }
+}
+
+// One step of a team's ticket: one conditional swap.
+pub fn step(book: &mut [u64], ticket: Ticket, team: u16) -> Stepped
+    requires { ⌜ (length (now book) ≡ wordsInBook) × (wellMade ticket ≡ true) × (team < teamCount) ⌝ }
+    ensures { λ r. ⌜ (r, now (book .exit)) ≡ stepOf (now (book .entry)) ticket team ⌝ }
+{
+    let tried = ticket.swap_tried(team);
+    let at = tried.word as usize;
+    let found = words::conditional_swap(book, at, tried.expected, tried.desired);
+    ticket.settle(found)
+}
+
+// One look at a word: one read.
+pub fn look(book: &[u64], word: u16) -> LookAnswer
+    requires { ⌜ word < length (now book) ⌝ }
+    ensures { λ r. ⌜ r ≡ lookOf (now (book .entry)) word ⌝ }
+{
+    let found = words::read(book, word as usize);
+    if words::is_held(found) {
+        LookAnswer::Held
+    } else {
+        LookAnswer::Value(found)
+    }
+}
