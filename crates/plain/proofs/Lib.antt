@@ -1,0 +1,22 @@
+pub mod Sums
+pub mod OneList
+pub mod TakenOut
+pub mod Remeasured
+pub mod Slots
+pub mod Addresses
+pub mod Figures
+pub mod OneHome
+pub mod Adding
+pub mod Striking
+pub mod Correcting
+pub mod Moving
+pub mod Lists
+pub mod Allowed
+pub mod BySlots
+pub mod Success
+pub mod EditLaws
+pub mod AnyOrder
+pub mod LaidOut
+pub mod Values
+pub mod ReadOut
+mod Examples
