@@ -1,0 +1,156 @@
+-- Examples computed: the frame of the whole case, answers' bytes, and what frames and fields are read as.
+use Prim.Native.Nat.{ℕ}
+use mathlib.Core.Path.{_≡_, refl}
+use mathlib.Core.List.{[], _∷_, map}
+use mathlib.Core.Option.{none, some}
+use lib.IntN.{ℤ, pos, negsuc}
+use lib.ListN.{replicate}
+use Rattle.words.specs.Tests.{allHold, someHolds}
+use Rattle.legs.specs.Legs.{measureInRange}
+use Rattle.tickets.specs.declared.StepAnswer.the-variants.{Granted, Stale}
+use Rattle.tickets.specs.declared.LookAnswer.the-variants.{Value, Held}
+use Rattle.edits.specs.declared.Edit.{Edit}
+use Rattle.edits.specs.declared.Edit.the-variants as Edit
+use Rattle.edits.specs.Ranges.{editInRange, editRepeats}
+use Rattle.frames.specs.declared.Request.{Request}
+use Rattle.frames.specs.declared.Request.the-variants as Request
+use Rattle.frames.specs.declared.Answer.the-variants as Answer
+use Rattle.frames.specs.declared.Header.the-variants as Header
+use Rattle.frames.specs.declared.EditRead.the-variants as EditRead
+use Rattle.frames.specs.Numbers.{Bytes}
+use Rattle.frames.specs.Requests.{lengthOfKind, addIn, editOfKind, requestOfKind, requestIn}
+use Rattle.frames.specs.Answers.{answerFrame, written}
+use Rattle.frames.specs.Fields.{headerOf, editRead}
+use Rattle.frames.specs.Writing.{requestFrame}
+use Rattle.frames.specs.Reading.{answerIn}
+
+-- The whole case's input: 18 00 01 00 00 00 00 00 01 00 00 00 00 00 01 00 02 00 88 13 00 00 28 23 6A FF.
+abbrev wholeCase : Bytes
+wholeCase =
+    24 ∷ 0 ∷ 1 ∷ 0 ∷ 0 ∷ 0 ∷ 0 ∷ 0 ∷ 1 ∷ 0 ∷ 0 ∷ 0 ∷ 0 ∷ 0 ∷ 1 ∷ 0 ∷ 2 ∷ 0 ∷ 136 ∷ 19 ∷ 0 ∷ 0 ∷ 40 ∷ 35 ∷ 106 ∷ 255 ∷ []
+
+-- Leg 1 is added to the empty passage 0: from 1 to 2, 5,000 mm, 90.00°, and a clino.
+abbrev adding : ℕ → ℤ → Edit
+adding distance clino = Edit.Add (record {
+  passage = 0;
+  leg = 1;
+  newest = 0;
+  count = 0;
+  stations = record { from = 1; to = 2 };
+  measure = record { distance = distance; compass = 9000; clino = clino };
+})
+
+whole-case-asked : requestFrame (Request.Open 0 (adding 5000 (negsuc 149))) ≡ wholeCase
+unfolding requestFrame
+whole-case-asked = refl
+
+whole-case-read : requestIn wholeCase ≡ Request.Open 0 (adding 5000 (negsuc 149))
+unfolding requestIn requestOfKind editOfKind addIn
+whole-case-read = refl
+
+whole-case-header : headerOf wholeCase ≡ Header.Kind 1
+unfolding headerOf someHolds allHold
+whole-case-header = refl
+
+-- Then ten times 04 00 05 00 00 00.
+step-asked : requestFrame (Request.Step 0) ≡ 4 ∷ 0 ∷ 5 ∷ 0 ∷ 0 ∷ 0 ∷ []
+unfolding requestFrame
+step-asked = refl
+
+-- The kinds' lengths.
+lengths : map lengthOfKind (1 ∷ 2 ∷ 3 ∷ 4 ∷ 5 ∷ 6 ∷ []) ≡ 24 ∷ 28 ∷ 26 ∷ 24 ∷ 4 ∷ 4 ∷ []
+lengths = refl
+
+-- Answers.
+standing-5 : answerFrame (Answer.Standing 5) ≡ 4 ∷ 0 ∷ 128 ∷ 0 ∷ 5 ∷ 0 ∷ []
+unfolding answerFrame
+standing-5 = refl
+
+granted-10 : answerFrame (Answer.Step (Granted 10)) ≡ 6 ∷ 0 ∷ 134 ∷ 0 ∷ 10 ∷ 0 ∷ 0 ∷ 0 ∷ []
+unfolding answerFrame
+granted-10 = refl
+
+stale-1-3 : answerFrame (Answer.Step (Stale 1 3)) ≡ 8 ∷ 0 ∷ 135 ∷ 0 ∷ 1 ∷ 0 ∷ 3 ∷ 0 ∷ 0 ∷ 0 ∷ []
+unfolding answerFrame
+stale-1-3 = refl
+
+-- The measure of the leg above, looked at.
+value : answerFrame (Answer.Look (Value 76022100792200)) ≡ 10 ∷ 0 ∷ 136 ∷ 0 ∷ 136 ∷ 19 ∷ 80 ∷ 70 ∷ 36 ∷ 69 ∷ 0 ∷ 0 ∷ []
+unfolding answerFrame
+value = refl
+
+held : answerFrame (Answer.Look Held) ≡ 2 ∷ 0 ∷ 137 ∷ 0 ∷ []
+unfolding answerFrame
+held = refl
+
+-- In an output of 12 bytes, those after the frame stay.
+held-written : written (replicate 12 7) (answerFrame (Answer.Look Held)) ≡ (4, 2 ∷ 0 ∷ 137 ∷ 0 ∷ replicate 8 7)
+unfolding answerFrame
+held-written = refl
+
+-- Bytes heard: a frame, the frame with a byte more, with another length field, and of another kind.
+heard : answerIn (4 ∷ 0 ∷ 138 ∷ 0 ∷ 11 ∷ 0 ∷ []) ≡ some (Answer.Refused 11)
+unfolding answerIn answerFrame
+heard = refl
+
+heard-more : answerIn (4 ∷ 0 ∷ 138 ∷ 0 ∷ 11 ∷ 0 ∷ 0 ∷ []) ≡ none
+unfolding answerIn answerFrame
+heard-more = refl
+
+heard-length : answerIn (5 ∷ 0 ∷ 138 ∷ 0 ∷ 11 ∷ 0 ∷ []) ≡ none
+unfolding answerIn answerFrame
+heard-length = refl
+
+heard-kind : answerIn (4 ∷ 0 ∷ 139 ∷ 0 ∷ 11 ∷ 0 ∷ []) ≡ none
+unfolding answerIn answerFrame
+heard-kind = refl
+
+-- Frames refused by 3, 4 and 5.
+short : headerOf (2 ∷ 0 ∷ 5 ∷ []) ≡ Header.Refused 3
+unfolding headerOf someHolds allHold
+short = refl
+
+torn : headerOf (6 ∷ 0 ∷ 5 ∷ 0 ∷ 0 ∷ 0 ∷ []) ≡ Header.Refused 3
+unfolding headerOf someHolds allHold
+torn = refl
+
+kind-7 : headerOf (4 ∷ 0 ∷ 7 ∷ 0 ∷ 0 ∷ 0 ∷ []) ≡ Header.Refused 4
+unfolding headerOf someHolds allHold
+kind-7 = refl
+
+step-as-add : headerOf (4 ∷ 0 ∷ 1 ∷ 0 ∷ 0 ∷ 0 ∷ []) ≡ Header.Refused 5
+unfolding headerOf someHolds allHold
+step-as-add = refl
+
+-- Clino 9,001: 10. Distance 0: 10. Distance 100,000 passes. Strike with f = r: 11.
+clino-9001 : editRead (adding 5000 (pos 9001)) ≡ EditRead.Refused 10
+unfolding editRead editInRange editRepeats measureInRange allHold someHolds
+clino-9001 = refl
+
+distance-0 : editRead (adding 0 (negsuc 149)) ≡ EditRead.Refused 10
+unfolding editRead editInRange editRepeats measureInRange allHold someHolds
+distance-0 = refl
+
+distance-100000 : editRead (adding 100000 (negsuc 149)) ≡ EditRead.Is (adding 100000 (negsuc 149))
+unfolding editRead editInRange editRepeats measureInRange allHold someHolds
+distance-100000 = refl
+
+abbrev striking : ℕ → ℕ → ℕ → ℕ → Edit
+striking newer distance from to = Edit.Strike (record {
+  passage = 0;
+  newer = newer;
+  leg = 1;
+  older = 0;
+  count = 1;
+  stations = record { from = from; to = to };
+  measure = record { distance = distance; compass = 9000; clino = negsuc 149 };
+})
+
+strike-itself : editRead (striking 1 5000 1 2) ≡ EditRead.Refused 11
+unfolding editRead editInRange editRepeats measureInRange allHold someHolds
+strike-itself = refl
+
+-- 10 goes before 11 across the whole edit.
+range-first : editRead (striking 1 0 7 7) ≡ EditRead.Refused 10
+unfolding editRead editInRange editRepeats measureInRange allHold someHolds
+range-first = refl

@@ -1,0 +1,71 @@
+-- An answer's frame is 4 to 12 bytes long, and its length field is right.
+use Prim.Native.Nat.{ℕ, _+_, _/_, _%_, _≤_}
+use mathlib.Core.Path.{_≡_, refl, ap}
+use mathlib.Core.List.{[], _++_}
+use mathlib.Core.Bool.{true}
+use native.Mathlib.Omega.{arith}
+use borrow.Author.Tests.{lt-ltb}
+use lib.ListN.{length}
+use Rattle.tickets.specs.declared.StepAnswer.the-variants.{Claimed, Waiting, Found, Put, Returned, Granted, Stale}
+use Rattle.tickets.specs.declared.LookAnswer.the-variants.{Value, Held}
+use Rattle.frames.specs.declared.Answer.{Answer}
+use Rattle.frames.specs.declared.Answer.the-variants.{Standing, Step, Look, Refused}
+use Rattle.frames.specs.Numbers.{Bytes, areBytes, bytes16, bytes32}
+use Rattle.frames.specs.Answers.{frameOf, answerKind, answerFields, answerFrame, longestAnswer, written, FrameSound, AnswerFramesSound}
+
+-- A number's bytes are bytes, in front of others too.
+with16 : (x : ℕ) (bytes : Bytes) → areBytes bytes ≡ true → areBytes (bytes16 x ++ bytes) ≡ true
+unfolding areBytes
+with16 x bytes h = simp (lt-ltb (x % 256) 256 (omega arith), lt-ltb (x / 256 % 256) 256 (omega arith), h)
+
+no-bytes : areBytes [] ≡ true
+unfolding areBytes
+no-bytes = refl
+
+-- A frame whose fields are bytes, at most eight of them.
+pub frame-sound : (kind : ℕ) (fields : Bytes) → length fields ≤ 8 → areBytes fields ≡ true → FrameSound (frameOf kind fields)
+frame-sound kind fields few bytes = record {
+  least = omega arith;
+  most = omega arith;
+  bytes = with16 (2 + length fields) (bytes16 kind ++ fields) (with16 kind fields bytes);
+  length-right = omega arith;
+}
+
+few-fields : (answer : Answer) → length (answerFields answer) ≤ 8
+few-fields (Standing n) = omega arith
+few-fields (Step (Claimed many)) = omega arith
+few-fields (Step (Waiting word)) = omega arith
+few-fields (Step (Found word)) = omega arith
+few-fields (Step (Put many)) = omega arith
+few-fields (Step (Returned many)) = omega arith
+few-fields (Step (Granted tries)) = omega arith
+few-fields (Step (Stale word tries)) = omega arith
+few-fields (Look (Value value)) = omega arith
+few-fields (Look Held) = omega arith
+few-fields (Refused number) = omega arith
+
+fields-bytes : (answer : Answer) → areBytes (answerFields answer) ≡ true
+fields-bytes (Standing n) = with16 n [] no-bytes
+fields-bytes (Step (Claimed many)) = with16 many [] no-bytes
+fields-bytes (Step (Waiting word)) = with16 word [] no-bytes
+fields-bytes (Step (Found word)) = with16 word [] no-bytes
+fields-bytes (Step (Put many)) = with16 many [] no-bytes
+fields-bytes (Step (Returned many)) = with16 many [] no-bytes
+fields-bytes (Step (Granted tries)) = with16 tries (bytes16 (tries / 65536)) (with16 (tries / 65536) [] no-bytes)
+fields-bytes (Step (Stale word tries)) = with16 word (bytes32 tries) (with16 tries (bytes16 (tries / 65536)) (with16 (tries / 65536) [] no-bytes))
+fields-bytes (Look (Value value)) =
+    let high = value / 4294967296 in
+    with16 value (bytes16 (value / 65536) ++ bytes32 high)
+    (with16 (value / 65536) (bytes32 high) (with16 high (bytes16 (high / 65536)) (with16 (high / 65536) [] no-bytes)))
+fields-bytes (Look Held) = no-bytes
+fields-bytes (Refused number) = with16 number [] no-bytes
+
+pub answer-frames-sound : AnswerFramesSound
+unfolding answerFrame
+answer-frames-sound answer = frame-sound (answerKind answer) (answerFields answer) (few-fields answer) (fields-bytes answer)
+
+-- What is written of an answer is no longer than the longest.
+pub fitted : (count : ℕ) (last out : Bytes) (answer : Answer) → (count, last) ≡ written out (answerFrame answer) → ((count, last) ≡ written out (answerFrame answer)) × (count ≤ longestAnswer)
+fitted count last out answer e =
+    let many : count ≡ length (answerFrame answer) = ap (λ (w : ℕ × Bytes). w .0) e in
+    (e, omega (arith, answer-frames-sound answer .most))

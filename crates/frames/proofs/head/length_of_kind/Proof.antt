@@ -1,0 +1,37 @@
+-- `frames::head::length_of_kind` meets its contract: each arm is a case of the definition.
+use borrow.Author.Tests.{ne-eqb}
+use Rattle.frames.proofs.head.length_of_kind.Statement.{statement}
+use Rattle.frames.proofs.head.length_of_kind.Tie as tie
+
+returns : tie.Need-returns
+returns c = rw (c .match .keys1)
+
+returns-2 : tie.Need-returns-2
+returns-2 c = rw (c .match .keys2)
+
+returns-3 : tie.Need-returns-3
+returns-3 c = rw (c .match .keys3)
+
+returns-4 : tie.Need-returns-4
+returns-4 c = rw (c .match .keys4)
+
+returns-5 : tie.Need-returns-5
+returns-5 c = rw (c .match .keys5)
+
+returns-6 : tie.Need-returns-6
+returns-6 c = rw (c .match .keys6)
+
+returns-7 : tie.Need-returns-7
+returns-7 c = let m = c .match .rest in
+    simp (
+      ne-eqb _ _ (m .0 .0 .0 .0 .0 .1),
+      ne-eqb _ _ (m .0 .0 .0 .0 .1),
+      ne-eqb _ _ (m .0 .0 .0 .1),
+      ne-eqb _ _ (m .0 .0 .1),
+      ne-eqb _ _ (m .0 .1),
+      ne-eqb _ _ (m .1),
+    )
+
+pub length-of-kind-spec : {M : Type 1} → statement M
+length-of-kind-spec =
+    tie.close (tie.spec returns returns-2 returns-3 returns-4 returns-5 returns-6 returns-7)

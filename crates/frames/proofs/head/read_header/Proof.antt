@@ -1,0 +1,81 @@
+-- `frames::head::read_header` meets its contract: the tests are made in the order of the refusals.
+use mathlib.Core.Path.{ap, _∙_}
+use denote.Ref.{now}
+use Rattle.frames.specs.declared.Header.the-variants as Header
+use Rattle.frames.proofs.Headers.{too-short, too-long, other-count, not-torn, kind-below, kind-above, kind-known, other-length, length-due, header-torn, header-unknown, header-wrong, header-kind, whole}
+use borrow.Author.Needs.{needs}
+use Rattle.frames.proofs.head.read_header.Statement.{statement}
+use Rattle.frames.proofs.head.read_header.Tie as tie
+
+returns : tie.Need-returns
+returns c = let frame = now (c .before .before .args .frame) in
+    (header-torn frame (too-short frame (c .if1 .taken)), tt)
+
+returns-2 : tie.Need-returns-2
+returns-2 c = let frame = now (c .before .before .before .args .frame) in
+    (header-torn frame (too-long frame (c .before .if1 .left) (c .if2 .taken)), tt)
+
+read16-requires : tie.Need-read16-requires
+read16-requires c κs = search needs
+
+cast-if3 : tie.Need-cast-if3
+cast-if3 c = search needs
+
+add-if3 : tie.Need-add-if3
+add-if3 c = search needs
+
+returns-3 : tie.Need-returns-3
+returns-3 c = let frame = now (c .before .before .before .before .before .args .frame) in
+    let length-field = c .before .read16 .ensures .0 in
+    (header-torn frame (other-count frame (c .before .before .before .if1 .left) (c .before .before .if2 .left) (rw length-field at (c .if3 .taken))), tt)
+
+read16-requires-2 : tie.Need-read16-requires-2
+read16-requires-2 c κs = search needs
+
+returns-4 : tie.Need-returns-4
+returns-4 c = let frame = now (c .before .before .before .before .before .before .before .args .frame) in
+    let length-field = c .before .before .before .read16 .ensures .0 in
+    let kind-field = c .before .read162 .ensures .0 in
+    (header-unknown frame (not-torn frame (c .before .before .before .before .before .if1 .left) (c .before .before .before .before .if2 .left) (rw length-field at (c .before .before .if3 .left))) (kind-below frame (rw kind-field at (c .if4 .taken))), tt)
+
+returns-5 : tie.Need-returns-5
+returns-5 c = let frame = now (c .before .before .before .before .before .before .before .before .args .frame) in
+    let length-field = c .before .before .before .before .read16 .ensures .0 in
+    let kind-field = c .before .before .read162 .ensures .0 in
+    (header-unknown frame (not-torn frame (c .before .before .before .before .before .before .if1 .left) (c .before .before .before .before .before .if2 .left) (rw length-field at (c .before .before .before .if3 .left))) (kind-above frame (rw kind-field at (c .if5 .taken))), tt)
+
+length-of-kind-requires : tie.Need-length-of-kind-requires
+length-of-kind-requires c κs = search needs
+
+returns-6 : tie.Need-returns-6
+returns-6 c = let frame = now (c .before .before .before .before .before .before .before .before .before .before .args .frame) in
+    let length-field = c .before .before .before .before .before .before .read16 .ensures .0 in
+    let kind-field = c .before .before .before .before .read162 .ensures .0 in
+    let due = c .before .length-of-kind .ensures in
+    (header-wrong frame (not-torn frame (c .before .before .before .before .before .before .before .before .if1 .left) (c .before .before .before .before .before .before .before .if2 .left) (rw length-field at (c .before .before .before .before .before .if3 .left))) (kind-known frame (rw kind-field at (c .before .before .before .if4 .left)) (rw kind-field at (c .before .before .if5 .left))) (other-length frame (rw (length-field, due, kind-field) at (c .if6 .taken))), tt)
+
+returns-7 : tie.Need-returns-7
+returns-7 c = let frame = now (c .before .before .before .before .before .before .before .before .before .before .args .frame) in
+    let length-field = c .before .before .before .before .before .before .read16 .ensures .0 in
+    let kind-field = c .before .before .before .before .read162 .ensures .0 in
+    let due = c .before .length-of-kind .ensures in (
+      ap Header.Kind kind-field ∙ header-kind frame (not-torn frame (c .before .before .before .before .before .before .before .before .if1 .left) (c .before .before .before .before .before .before .before .if2 .left) (rw length-field at (c .before .before .before .before .before .if3 .left))) (kind-known frame (rw kind-field at (c .before .before .before .if4 .left)) (rw kind-field at (c .before .before .if5 .left))) (length-due frame (rw (length-field, due, kind-field) at (c .if6 .left))),
+      whole frame _ _ (c .before .before .before .if4 .left) (c .before .before .if5 .left) (c .before .before .before .before .before .before .before .before .if1 .left) (c .before .before .before .before .before .if3 .left) (c .if6 .left ∙ due),
+    )
+
+pub read-header-spec : {M : Type 1} → statement M
+read-header-spec =
+    tie.close
+    (tie.spec
+    returns
+    returns-2
+    read16-requires
+    cast-if3
+    add-if3
+    returns-3
+    read16-requires-2
+    returns-4
+    returns-5
+    length-of-kind-requires
+    returns-6
+    returns-7)

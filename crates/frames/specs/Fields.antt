@@ -1,0 +1,115 @@
+-- "Frames refused": what 3, 4, 5, 10 and 11 test, on the frame and on its fields, and what the reader answers.
+use Prim.Native.Nat.{ℕ, _+_, _-_, _≤_}
+use mathlib.Core.Path.{_≡_}
+use mathlib.Core.List.{[], _∷_}
+use mathlib.Core.Bool.{Bool, false, not, cond}
+use lib.ListN.{length}
+use lib.Dec.{eqb, ltb}
+use lib.IntN.{ℤ}
+use Rattle.words.specs.Tests.{allHold, someHolds, within}
+use Rattle.words.specs.Words.{wordsInBook}
+use Rattle.legs.specs.declared.Measure.{Measure}
+use Rattle.legs.specs.Legs.{clinoInRange, measureInRange}
+use Rattle.edits.specs.declared.Edit.{Edit}
+use Rattle.edits.specs.Ranges.{legInRange, legOrNoneInRange, countBeforeStrikeInRange, editInRange, editRepeats}
+use Rattle.frames.specs.declared.Request.{Request}
+use Rattle.frames.specs.declared.Request.the-variants.{Open, Step, Look}
+use Rattle.frames.specs.declared.Header.{Header}
+use Rattle.frames.specs.declared.Header.the-variants as Header
+use Rattle.frames.specs.declared.Field.{Field}
+use Rattle.frames.specs.declared.Field.the-variants as Field
+use Rattle.frames.specs.declared.LongField.{LongField}
+use Rattle.frames.specs.declared.LongField.the-variants as LongField
+use Rattle.frames.specs.declared.SignedField.{SignedField}
+use Rattle.frames.specs.declared.SignedField.the-variants as SignedField
+use Rattle.frames.specs.declared.MeasureField.{MeasureField}
+use Rattle.frames.specs.declared.MeasureField.the-variants as MeasureField
+use Rattle.frames.specs.declared.Taken.{Taken}
+use Rattle.frames.specs.declared.TakenField.{TakenField}
+use Rattle.frames.specs.declared.TakenField.the-variants as TakenField
+use Rattle.frames.specs.declared.EditRead.{EditRead}
+use Rattle.frames.specs.declared.EditRead.the-variants as EditRead
+use Rattle.frames.specs.Numbers.{Bytes}
+use Rattle.frames.specs.Requests.{lengthField, kindField, headBytes, partAfterKind, addKind, lookKind, lengthOfKind}
+
+-- A frame has at most 64 bytes.
+abbrev pub longestFrame : ℕ
+longestFrame = 64
+
+-- 3. The frame has fewer than 4 or more than 64 bytes, or its length field isn't the count of bytes after it.
+abbrev pub frameTorn : Bytes → Bool
+frameTorn frame = someHolds (ltb (length frame) headBytes ∷ ltb longestFrame (length frame) ∷ not (eqb (lengthField frame + 2) (length frame)) ∷ [])
+
+-- 4. The kind isn't 1 to 6.
+abbrev pub kindUnknown : Bytes → Bool
+kindUnknown frame = not (within addKind lookKind (kindField frame))
+
+-- 5. The length isn't that of the kind.
+abbrev pub lengthWrong : Bytes → Bool
+lengthWrong frame = not (eqb (lengthField frame) (lengthOfKind (kindField frame)))
+
+-- The first of these three that applies, or else the kind.
+unfoldable pub headerOf : Bytes → Header
+headerOf frame =
+    cond (frameTorn frame) (Header.Refused 3)
+    (cond (kindUnknown frame) (Header.Refused 4)
+    (cond (lengthWrong frame) (Header.Refused 5)
+    (Header.Kind (kindField frame))))
+
+-- A frame that none of the three refuses: its kind is 1 to 6, and the part after the kind has the length that the kind asks for.
+pub record Whole (frame : Bytes) (kind : ℕ) : Type 0 where
+  pub first : addKind ≤ kind
+  pub last : kind ≤ lookKind
+  pub head : headBytes ≤ length frame
+  pub fields : length (partAfterKind frame) ≡ lengthOfKind kind - 2
+
+abbrev pub WholeIfKnown : Bytes → Header → Type 0
+WholeIfKnown frame (Header.Kind kind) = Whole frame kind
+WholeIfKnown frame (Header.Refused number) = Unit {0}
+
+-- 10. A field is out of range.
+abbrev pub fieldOutOfRange : Request → Bool
+fieldOutOfRange (Open team edit) = not (editInRange edit)
+fieldOutOfRange (Step team) = false
+fieldOutOfRange (Look word) = not (ltb word wordsInBook)
+
+-- 11. from equals to, q equals p, or a leg number other than 0 is named twice.
+abbrev pub fieldRepeated : Request → Bool
+fieldRepeated (Open team edit) = editRepeats edit
+fieldRepeated (Step team) = false
+fieldRepeated (Look word) = false
+
+-- A field's answer: in range with its value, or out of range. For fields of 16 bits, the distance, the clino, and M.
+abbrev pub fieldOf : Bool → ℕ → Field
+fieldOf inRange value = cond inRange (Field.InRange value) Field.OutOfRange
+
+abbrev pub longFieldOf : Bool → ℕ → LongField
+longFieldOf inRange value = cond inRange (LongField.InRange value) LongField.OutOfRange
+
+abbrev pub clinoFieldOf : ℤ → SignedField
+clinoFieldOf clino = cond (clinoInRange clino) (SignedField.InRange clino) SignedField.OutOfRange
+
+abbrev pub measureFieldOf : Measure → MeasureField
+measureFieldOf measure = cond (measureInRange measure) (MeasureField.InRange measure) MeasureField.OutOfRange
+
+-- f, r, s and c, where a leg is taken out of its passage's list.
+abbrev pub takenInRange : Taken → Bool
+takenInRange taken =
+    allHold (
+    legOrNoneInRange (taken .newer)
+    ∷ legInRange (taken .leg)
+    ∷ legOrNoneInRange (taken .older)
+    ∷ countBeforeStrikeInRange (taken .count)
+    ∷ []
+    )
+
+abbrev pub takenFieldOf : Taken → TakenField
+takenFieldOf taken = cond (takenInRange taken) (TakenField.InRange taken) TakenField.OutOfRange
+
+-- The same leg is named by two numbers; 0 names none.
+abbrev pub sameLeg : ℕ → ℕ → Bool
+sameLeg leg other = allHold (not (eqb leg 0) ∷ eqb leg other ∷ [])
+
+-- What the fields of an edit are read as: refused by 10 where one is out of range, then by 11, or else the edit.
+unfoldable pub editRead : Edit → EditRead
+editRead edit = cond (editInRange edit) (cond (editRepeats edit) (EditRead.Refused 11) (EditRead.Is edit)) (EditRead.Refused 10)

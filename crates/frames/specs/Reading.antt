@@ -1,0 +1,76 @@
+-- An answer read back from its bytes: hearing the bytes is hearing the answer.
+use Prim.Native.Nat.{_^_}
+use mathlib.Core.Path.{_≡_}
+use mathlib.Core.List.{List, [], _∷_}
+use mathlib.Core.Bool.{Bool, true, false, cond}
+use mathlib.Core.Option.{Option, none, some}
+use lib.Dec.{eqb, ltb}
+use Rattle.words.specs.Tests.{allHold}
+use Rattle.tickets.specs.declared.StepAnswer.{StepAnswer}
+use Rattle.tickets.specs.declared.StepAnswer.the-variants.{Claimed, Waiting, Found, Put, Returned, Granted, Stale}
+use Rattle.tickets.specs.declared.LookAnswer.{LookAnswer}
+use Rattle.tickets.specs.declared.LookAnswer.the-variants.{Value, Held}
+use Rattle.frames.specs.declared.Answer.{Answer}
+use Rattle.frames.specs.declared.Answer.the-variants.{Standing, Step, Look, Refused}
+use Rattle.frames.specs.Numbers.{Bytes, number16, number32, number64}
+use Rattle.frames.specs.Requests.{partAfterKind}
+use Rattle.frames.specs.Answers.{answerFrame}
+
+-- The answer of each kind whose fields are a part after the kind.
+abbrev pub answersWith : Bytes → List Answer
+answersWith part =
+    Standing (number16 part 0)
+    ∷ Step (Claimed (number16 part 0))
+    ∷ Step (Waiting (number16 part 0))
+    ∷ Step (Found (number16 part 0))
+    ∷ Step (Put (number16 part 0))
+    ∷ Step (Returned (number16 part 0))
+    ∷ Step (Granted (number32 part 0))
+    ∷ Step (Stale (number16 part 0) (number32 part 2))
+    ∷ Look (Value (number64 part 0))
+    ∷ Look Held
+    ∷ Refused (number16 part 0)
+    ∷ []
+
+abbrev pub sameBytes : Bytes → Bytes → Bool
+sameBytes [] [] = true
+sameBytes [] (other ∷ others) = false
+sameBytes (byte ∷ bytes) [] = false
+sameBytes (byte ∷ bytes) (other ∷ others) = cond (eqb byte other) (sameBytes bytes others) false
+
+-- The first of some answers whose frame the bytes are, whole and nothing else.
+abbrev pub firstFramed : Bytes → List Answer → Option Answer
+firstFramed bytes [] = none
+firstFramed bytes (answer ∷ answers) = cond (sameBytes (answerFrame answer) bytes) (some answer) (firstFramed bytes answers)
+
+-- The answer whose frame the bytes are; none where they are no answer's frame.
+unfoldable pub answerIn : Bytes → Option Answer
+answerIn bytes = firstFramed bytes (answersWith (partAfterKind bytes))
+
+-- Each field has room in its bits.
+abbrev pub stepAnswerFits : StepAnswer → Bool
+stepAnswerFits (Claimed many) = ltb many 65536
+stepAnswerFits (Waiting word) = ltb word 65536
+stepAnswerFits (Found word) = ltb word 65536
+stepAnswerFits (Put many) = ltb many 65536
+stepAnswerFits (Returned many) = ltb many 65536
+stepAnswerFits (Granted tries) = ltb tries 4294967296
+stepAnswerFits (Stale word tries) = allHold (ltb word 65536 ∷ ltb tries 4294967296 ∷ [])
+
+abbrev pub lookAnswerFits : LookAnswer → Bool
+lookAnswerFits (Value value) = ltb value (2 ^ 64)
+lookAnswerFits Held = true
+
+abbrev pub answerFits : Answer → Bool
+answerFits (Standing n) = ltb n 65536
+answerFits (Step answer) = stepAnswerFits answer
+answerFits (Look answer) = lookAnswerFits answer
+answerFits (Refused number) = ltb number 65536
+
+-- Statement: an answer whose fields fit is read back from its frame,
+abbrev pub AnswersReadBack : Type 0
+AnswersReadBack = (answer : Answer) → answerFits answer ≡ true → answerIn (answerFrame answer) ≡ some answer
+
+-- and only from its frame.
+abbrev pub OnlyAnswersRead : Type 0
+OnlyAnswersRead = (bytes : Bytes) (answer : Answer) → answerIn bytes ≡ some answer → bytes ≡ answerFrame answer

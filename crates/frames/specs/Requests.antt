@@ -1,0 +1,149 @@
+-- "Frames": the kinds, their lengths, and the fields of each.
+use Prim.Native.Nat.{ℕ, _+_}
+use mathlib.Core.Path.{_≡_}
+use mathlib.Core.Bool.{true, cond}
+use lib.ListN.{drop}
+use lib.Dec.{eqb}
+use Rattle.legs.specs.declared.Stations.{Stations}
+use Rattle.legs.specs.declared.Measure.{Measure}
+use Rattle.edits.specs.declared.Add.{Add}
+use Rattle.edits.specs.declared.Correct.{Correct}
+use Rattle.edits.specs.declared.Strike.{Strike}
+use Rattle.edits.specs.declared.Move.{Move}
+use Rattle.edits.specs.declared.Edit.{Edit}
+use Rattle.edits.specs.declared.Edit.the-variants as Edit
+use Rattle.edits.specs.Ranges.{editStationsInRange}
+use Rattle.frames.specs.declared.Taken.{Taken}
+use Rattle.frames.specs.declared.Request.{Request}
+use Rattle.frames.specs.declared.Request.the-variants.{Open, Step, Look}
+use Rattle.frames.specs.Numbers.{Bytes, areBytes, number16, number32, signed16}
+
+-- Each starts with a 16-bit length of what follows it,
+abbrev pub lengthField : Bytes → ℕ
+lengthField frame = number16 frame 0
+
+-- then a 16-bit kind:
+abbrev pub kindField : Bytes → ℕ
+kindField frame = number16 frame 2
+
+-- four bytes.
+abbrev pub headBytes : ℕ
+headBytes = 4
+
+-- The reader works on the part of the frame after its kind.
+abbrev pub partAfterKind : Bytes → Bytes
+partAfterKind frame = drop headBytes frame
+
+-- The kinds of what is asked for.
+abbrev pub addKind : ℕ
+addKind = 1
+
+abbrev pub correctKind : ℕ
+correctKind = 2
+
+abbrev pub strikeKind : ℕ
+strikeKind = 3
+
+abbrev pub moveKind : ℕ
+moveKind = 4
+
+abbrev pub stepKind : ℕ
+stepKind = 5
+
+abbrev pub lookKind : ℕ
+lookKind = 6
+
+-- Add (length 24), Correct (28), Strike (26), Move (24), Step (4), Look (4); 0 for no kind.
+abbrev pub lengthOfKind : ℕ → ℕ
+lengthOfKind kind =
+    cond (eqb kind addKind) 24
+    (cond (eqb kind correctKind) 28
+    (cond (eqb kind strikeKind) 26
+    (cond (eqb kind moveKind) 24
+    (cond (eqb kind stepKind) 4
+    (cond (eqb kind lookKind) 4 0)))))
+
+-- from to.
+abbrev pub stationsAt : Bytes → ℕ → Stations
+stationsAt part at = record { from = number16 part at; to = number16 part (at + 2) }
+
+-- M stands for distance (32 bits), compass, clino (signed).
+abbrev pub measureAt : Bytes → ℕ → Measure
+measureAt part at = record { distance = number32 part at; compass = number16 part (at + 4); clino = signed16 part (at + 6) }
+
+-- f r s c: a leg that is taken out of its passage's list.
+abbrev pub takenAt : Bytes → ℕ → Taken
+takenAt part at = record { newer = number16 part at; leg = number16 part (at + 2); older = number16 part (at + 4); count = number16 part (at + 6) }
+
+-- Every edit and a step start with the team.
+abbrev pub teamIn : Bytes → ℕ
+teamIn part = number16 part 0
+
+-- Add: team p r h c from to M.
+unfoldable pub addIn : Bytes → Add
+addIn part = record {
+  passage = number16 part 2;
+  leg = number16 part 4;
+  newest = number16 part 6;
+  count = number16 part 8;
+  stations = stationsAt part 10;
+  measure = measureAt part 14;
+}
+
+-- Correct: team p r from to, old M, new M.
+unfoldable pub correctIn : Bytes → Correct
+correctIn part = record {
+  passage = number16 part 2;
+  leg = number16 part 4;
+  stations = stationsAt part 6;
+  old = measureAt part 10;
+  new = measureAt part 18;
+}
+
+-- Strike: team p f r s c from to M.
+unfoldable pub strikeIn : Bytes → Strike
+strikeIn part = record {
+  passage = number16 part 2;
+  newer = number16 part 4;
+  leg = number16 part 6;
+  older = number16 part 8;
+  count = number16 part 10;
+  stations = stationsAt part 12;
+  measure = measureAt part 16;
+}
+
+-- Move: team p q f r s c h d from to.
+unfoldable pub moveIn : Bytes → Move
+moveIn part = record {
+  passage = number16 part 2;
+  into = number16 part 4;
+  newer = number16 part 6;
+  leg = number16 part 8;
+  older = number16 part 10;
+  count = number16 part 12;
+  «into_newest» = number16 part 14;
+  «into_count» = number16 part 16;
+  stations = stationsAt part 18;
+}
+
+-- The edit of a frame whose kind is an edit's.
+unfoldable pub editOfKind : ℕ → Bytes → Edit
+editOfKind kind part =
+    cond (eqb kind addKind) (Edit.Add (addIn part))
+    (cond (eqb kind correctKind) (Edit.Correct (correctIn part))
+    (cond (eqb kind strikeKind) (Edit.Strike (strikeIn part))
+    (Edit.Move (moveIn part))))
+
+-- What a frame of kind 1 to 6 asks for. (Other kinds are refused before this is looked at.)
+unfoldable pub requestOfKind : ℕ → Bytes → Request
+requestOfKind kind part =
+    cond (eqb kind stepKind) (Step (teamIn part))
+    (cond (eqb kind lookKind) (Look (number16 part 0))
+    (Open (teamIn part) (editOfKind kind part)))
+
+unfoldable pub requestIn : Bytes → Request
+requestIn frame = requestOfKind (kindField frame) (partAfterKind frame)
+
+-- Statement: the stations of every edit that is read from bytes are station numbers.
+abbrev pub StationsFit : Type 0
+StationsFit = (frame : Bytes) (team : ℕ) (edit : Edit) → areBytes frame ≡ true → requestIn frame ≡ Open team edit → editStationsInRange edit ≡ true

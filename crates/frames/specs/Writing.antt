@@ -1,0 +1,74 @@
+-- The frame that asks for a request: the other way round from `requestIn`.
+use Prim.Native.Nat.{ℕ, _-_}
+use mathlib.Core.Path.{_≡_}
+use mathlib.Core.List.{List, [], _∷_, _++_}
+use mathlib.Core.Bool.{Bool, true}
+use lib.Dec.{ltb}
+use lib.IntN.{ℤ, pos, negsuc}
+use Rattle.words.specs.Tests.{allHold}
+use Rattle.legs.specs.declared.Measure.{Measure}
+use Rattle.edits.specs.declared.Edit.{Edit}
+use Rattle.edits.specs.declared.Edit.the-variants.{Add, Correct, Strike, Move}
+use Rattle.edits.specs.Ranges.{editInRange, editStationsInRange}
+use Rattle.frames.specs.declared.Request.{Request}
+use Rattle.frames.specs.declared.Request.the-variants.{Open, Step, Look}
+use Rattle.frames.specs.declared.Header.the-variants.{Kind}
+use Rattle.frames.specs.Numbers.{Bytes, bytes16, bytes32}
+use Rattle.frames.specs.Requests.{addKind, correctKind, strikeKind, moveKind, stepKind, lookKind, requestIn}
+use Rattle.frames.specs.Answers.{frameOf}
+use Rattle.frames.specs.Fields.{headerOf}
+
+-- The 16 bits of a signed number.
+abbrev pub bitsOf : ℤ → ℕ
+bitsOf (pos n) = n
+bitsOf (negsuc n) = 65535 - n
+
+-- Fields of 16 bits, one after the other.
+abbrev pub fields16 : List ℕ → Bytes
+fields16 [] = []
+fields16 (field ∷ fields) = bytes16 field ++ fields16 fields
+
+-- M.
+abbrev pub measureBytes : Measure → Bytes
+measureBytes measure = bytes32 (measure .distance) ++ fields16 (measure .compass ∷ bitsOf (measure .clino) ∷ [])
+
+-- The kind of what is asked for.
+abbrev pub editKind : Edit → ℕ
+editKind (Add e) = addKind
+editKind (Correct e) = correctKind
+editKind (Strike e) = strikeKind
+editKind (Move e) = moveKind
+
+abbrev pub requestKind : Request → ℕ
+requestKind (Open team edit) = editKind edit
+requestKind (Step team) = stepKind
+requestKind (Look word) = lookKind
+
+-- Its fields.
+abbrev pub editFields : ℕ → Edit → Bytes
+editFields team (Add e) = fields16 (team ∷ e .passage ∷ e .leg ∷ e .newest ∷ e .count ∷ e .stations .from ∷ e .stations .to ∷ []) ++ measureBytes (e .measure)
+editFields team (Correct e) = fields16 (team ∷ e .passage ∷ e .leg ∷ e .stations .from ∷ e .stations .to ∷ []) ++ measureBytes (e .old) ++ measureBytes (e .new)
+editFields team (Strike e) = fields16 (team ∷ e .passage ∷ e .newer ∷ e .leg ∷ e .older ∷ e .count ∷ e .stations .from ∷ e .stations .to ∷ []) ++ measureBytes (e .measure)
+editFields team (Move e) = fields16 (team ∷ e .passage ∷ e .into ∷ e .newer ∷ e .leg ∷ e .older ∷ e .count ∷ e .«into_newest» ∷ e .«into_count» ∷ e .stations .from ∷ e .stations .to ∷ [])
+
+abbrev pub requestFields : Request → Bytes
+requestFields (Open team edit) = editFields team edit
+requestFields (Step team) = bytes16 team
+requestFields (Look word) = bytes16 word
+
+unfoldable pub requestFrame : Request → Bytes
+requestFrame request = frameOf (requestKind request) (requestFields request)
+
+-- Every field has room in its bits: an edit in range, stations, a team and a word of 16 bits.
+abbrev pub requestFits : Request → Bool
+requestFits (Open team edit) = allHold (ltb team 65536 ∷ editInRange edit ∷ editStationsInRange edit ∷ [])
+requestFits (Step team) = ltb team 65536
+requestFits (Look word) = ltb word 65536
+
+-- Statement: what is asked for is read back from its frame without loss.
+abbrev pub RequestsReadBack : Type 0
+RequestsReadBack = (request : Request) → requestFits request ≡ true → requestIn (requestFrame request) ≡ request
+
+-- Statement: refusals 3, 4 and 5 never apply to such a frame.
+abbrev pub RequestFramesWhole : Type 0
+RequestFramesWhole = (request : Request) → headerOf (requestFrame request) ≡ Kind (requestKind request)

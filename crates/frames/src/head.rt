@@ -1,0 +1,63 @@
+// A frame's length and kind, and the part after the kind.
+ghost use mathlib.Core.Path.{_≡_};
+ghost use Prim.Native.Nat.{_≤_};
+ghost use lib.ListN.{length};
+ghost use Rattle.frames.specs.Requests.{headBytes, partAfterKind, lengthOfKind};
+ghost use Rattle.frames.specs.Fields.{headerOf, WholeIfKnown};
+use crate::Frame;
+use crate::Header;
+use crate::Kind;
+use crate::Refusal;
+use crate::numbers::read16;
+
+// The part of the frame after its kind.
+pub fn part_after_kind(frame: &[u8]) -> &[u8]
+    requires { ⌜ headBytes ≤ length (now frame) ⌝ }
+    ensures { λ r. ⌜ now r ≡ partAfterKind (now (frame .entry)) ⌝ }
+{
+    &frame[Frame::HEAD..]
+}
+
+// What the length field of each kind says; 0 for no kind.
+fn length_of_kind(kind: u16) -> u16
+    ensures { λ r. ⌜ r ≡ lengthOfKind kind ⌝ }
+{
+    match kind {
+        Kind::ADD => 24,
+        Kind::CORRECT => 28,
+        Kind::STRIKE => 26,
+        Kind::MOVE => 24,
+        Kind::STEP => 4,
+        Kind::LOOK => 4,
+        _ => 0,
+    }
+}
+
+// The kind, unless refusal 3, 4 or 5 comes first.
+pub fn read_header(frame: &[u8]) -> Header
+    ensures { λ r. ⌜ (r ≡ headerOf (now (frame .entry))) × WholeIfKnown (now (frame .entry)) r ⌝ }
+{
+    let count = frame.len();
+    if count < Frame::HEAD {
+        return Header::Refused(Refusal::TORN);
+    }
+    if Frame::LONGEST < count {
+        return Header::Refused(Refusal::TORN);
+    }
+    let length = read16(frame, 0);
+    if length as usize + Frame::FIELD != count {
+        return Header::Refused(Refusal::TORN);
+    }
+    let kind = read16(frame, Frame::FIELD);
+    if kind < Kind::ADD {
+        return Header::Refused(Refusal::KIND);
+    }
+    if Kind::LOOK < kind {
+        return Header::Refused(Refusal::KIND);
+    }
+    let due = length_of_kind(kind);
+    if length != due {
+        return Header::Refused(Refusal::LENGTH);
+    }
+    Header::Kind(kind)
+}

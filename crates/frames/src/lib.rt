@@ -1,0 +1,134 @@
+// Frames: what a frame asks for, and the bytes of an answer.
+use edits::Edit;
+use legs::Measure;
+use tickets::LookAnswer;
+use tickets::StepAnswer;
+
+pub mod numbers; // numbers in bytes, read and put
+pub mod head; // refusals 3 to 5, and the part after the kind
+pub mod fields; // one field, in range or out of it
+pub mod decoding; // the fields of each edit, refusals 10 and 11
+pub mod writing; // an answer's frame
+
+// What a frame asks for: an edit or a step of a team, or a look at a word.
+pub enum Request {
+    Open(u16, Edit),
+    Step(u16),
+    Look(u16),
+}
+
+pub enum Answer {
+    Standing(u16),
+    Step(StepAnswer),
+    Look(LookAnswer),
+    Refused(u16),
+}
+
+// The kind of a whole frame, or the number of the refusal.
+pub enum Header {
+    Kind(u16),
+    Refused(u16),
+}
+
+// A field's answer: of 16 bits, of 32, signed, and of the fields that make a measure.
+pub enum Field {
+    InRange(u16),
+    OutOfRange,
+}
+
+pub enum LongField {
+    InRange(u32),
+    OutOfRange,
+}
+
+pub enum SignedField {
+    InRange(i16),
+    OutOfRange,
+}
+
+pub enum MeasureField {
+    InRange(Measure),
+    OutOfRange,
+}
+
+// Of a leg that is taken out of its passage's list: the next newer leg, itself, the next older, and the count of legs.
+pub struct Taken {
+    pub newer: u16,
+    pub leg: u16,
+    pub older: u16,
+    pub count: u16,
+}
+
+pub enum TakenField {
+    InRange(Taken),
+    OutOfRange,
+}
+
+// The edit that a frame's fields are, or the number of the refusal.
+pub enum EditRead {
+    Is(Edit),
+    Refused(u16),
+}
+
+// The size of a frame, in bytes.
+pub struct Frame {}
+
+impl Frame {
+    // A field of 16 bits, as the length and the kind are.
+    pub const FIELD: usize = 2;
+
+    // The length and the kind.
+    pub const HEAD: usize = 4;
+
+    pub const LONGEST: usize = 64;
+}
+
+impl Answer {
+    // The bytes of the longest answer's frame, which an output must have room for.
+    pub const LONGEST: usize = 12;
+}
+
+// The kinds of what is asked for.
+pub struct Kind {}
+
+impl Kind {
+    pub const ADD: u16 = 1;
+
+    pub const CORRECT: u16 = 2;
+
+    pub const STRIKE: u16 = 3;
+
+    pub const MOVE: u16 = 4;
+
+    pub const STEP: u16 = 5;
+
+    pub const LOOK: u16 = 6;
+}
+
+// The numbers of the refusals, in checking order.
+pub struct Refusal {}
+
+impl Refusal {
+    // These two are returned, and written nowhere.
+    pub const BOOK: usize = 1;
+
+    pub const OUTPUT: usize = 2;
+
+    pub const TORN: u16 = 3;
+
+    pub const KIND: u16 = 4;
+
+    pub const LENGTH: u16 = 5;
+
+    pub const TEAM: u16 = 6;
+
+    pub const TICKET: u16 = 7;
+
+    pub const STANDING: u16 = 8;
+
+    pub const NO_TICKET: u16 = 9;
+
+    pub const RANGE: u16 = 10;
+
+    pub const REPEATED: u16 = 11;
+}
