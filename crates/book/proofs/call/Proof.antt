@@ -1,0 +1,76 @@
+-- `book::call` meets its contract: refusals 1 and 2 at once, else the way of the frame.
+use denote.Ref.{now}
+use Rattle.book.proofs.Going.{slot-known}
+use Rattle.book.proofs.Sending.{call-no-book, call-no-room, call-by}
+use borrow.Author.Needs.{needs}
+use Rattle.book.proofs.call.Statement.{statement}
+use Rattle.book.proofs.call.Tie as tie
+
+returns : tie.Need-returns
+returns c =
+    let args = c .before .before .before .before .args in
+    call-no-book (now (args .book)) (args .t2) (now (args .frame)) (now (args .out)) (c .if1 .taken)
+
+returns-2 : tie.Need-returns-2
+returns-2 c =
+    let args = c .before .before .before .before .before .args in
+    call-no-room (now (args .book)) (args .t2) (now (args .frame)) (now (args .out)) (c .before .if1 .left) (c .if2 .taken)
+
+aim-of-requires : tie.Need-aim-of-requires
+aim-of-requires c κs = search needs
+
+slot-of-requires : tie.Need-slot-of-requires
+slot-of-requires c κs = slot-known (now (c .before .before .before .before .before .before .args .frame)) (c .aim-of .result) (c .aim-of .ensures .1)
+
+mul-ticket : tie.Need-mul-ticket
+mul-ticket c = search needs
+
+element-copy-out-ticket : tie.Need-element-copy-out-ticket
+element-copy-out-ticket c = search needs
+
+settle-requires : tie.Need-settle-requires
+settle-requires c κs = search needs
+
+mul-next : tie.Need-mul-next
+mul-next c = search needs
+
+element-set-from-next : tie.Need-element-set-from-next
+element-set-from-next c = search needs
+
+write-answer-requires : tie.Need-write-answer-requires
+write-answer-requires c κs = search needs
+
+same-length : tie.Need-same-length
+same-length c = search needs
+
+same-length-2 : tie.Need-same-length-2
+same-length-2 c = search needs
+
+returns-3 : tie.Need-returns-3
+returns-3 c =
+    let args = c .before .before .before .before .before .before .before .before .before .before .before .before .before .before .before .before .before .args in
+    call-by (now (args .book)) (args .t2) (now (args .frame)) (now (args .out)) _ _ _ _ _ _
+    (c .before .before .before .before .before .before .before .before .before .before .before .aim-of .ensures .0)
+    (c .before .before .before .before .before .before .before .before .before .before .slot-of .ensures .0)
+    (c .before .before .before .before .before .before .before .settle .ensures)
+    (c .before .before .write-answer .ensures .0)
+    (c .before .before .before .before .before .before .before .before .before .before .before .before .before .if1 .left)
+    (c .before .before .before .before .before .before .before .before .before .before .before .before .if2 .left)
+
+pub call-spec : {M : Type 1} → statement M
+call-spec =
+    tie.close
+    (tie.spec
+    returns
+    returns-2
+    aim-of-requires
+    slot-of-requires
+    mul-ticket
+    element-copy-out-ticket
+    settle-requires
+    mul-next
+    element-set-from-next
+    write-answer-requires
+    same-length
+    same-length-2
+    returns-3)

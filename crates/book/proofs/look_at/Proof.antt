@@ -1,0 +1,35 @@
+-- `book::look_at` meets its contract: a look at a word of the book, or refusal 10.
+use mathlib.Core.Path.{ap, _∙_}
+use denote.Ref.{now}
+use Rattle.frames.specs.declared.Answer.the-variants as Answer
+use Rattle.book.specs.Way.{settled, lookSettled}
+use Rattle.book.proofs.Going.{look-shown, look-outside}
+use borrow.Author.Needs.{needs}
+use Rattle.book.proofs.look_at.Statement.{statement}
+use Rattle.book.proofs.look_at.Tie as tie
+
+read16-requires : tie.Need-read16-requires
+read16-requires c κs = search needs
+
+cast-if1 : tie.Need-cast-if1
+cast-if1 c = search needs
+
+look-requires : tie.Need-look-requires
+look-requires c κs = search needs
+
+returns : tie.Need-returns
+returns c =
+    let start = c .before .before .before .before .before in
+    let word = c .before .before .read16 .ensures .0 in
+    (λ i. settled (start .args .ticket) (Answer.Look (c .look .ensures i)))
+    ∙ look-shown (now (start .args .book)) (start .args .ticket) (c .before .before .read16 .result) (c .before .if1 .taken)
+    ∙ ap (lookSettled (now (start .args .book)) (start .args .ticket)) word
+
+returns-2 : tie.Need-returns-2
+returns-2 c =
+    let start = c .before .before .before .before in
+    look-outside (now (start .args .book)) (start .args .ticket) (c .before .read16 .result) (c .if1 .left)
+    ∙ ap (lookSettled (now (start .args .book)) (start .args .ticket)) (c .before .read16 .ensures .0)
+
+pub look-at-spec : {M : Type 1} → statement M
+look-at-spec = tie.close (tie.spec read16-requires cast-if1 look-requires returns returns-2)

@@ -1,0 +1,34 @@
+-- `book::stream` meets its contract: no book of 4,096 words, or all frames answered.
+use native.Mathlib.Omega.{arith}
+use mathlib.Core.Path.{_∙_}
+use denote.Ref.{now}
+use Rattle.book.proofs.Streaming.{stream-whole, stream-no-book}
+use borrow.Author.Needs.{needs}
+use Rattle.book.proofs.stream.Statement.{statement}
+use Rattle.book.proofs.stream.Tie as tie
+
+returns : tie.Need-returns
+returns c =
+    let args = c .before .before .before .before .args in
+    ((omega arith, omega arith), stream-no-book (now (args .book)) (args .tickets) (now (args .input)) (now (args .out)) (c .if1 .taken))
+
+answer-frames-requires : tie.Need-answer-frames-requires
+answer-frames-requires c κs = search needs
+
+same-length : tie.Need-same-length
+same-length c = search needs
+
+same-length-2 : tie.Need-same-length-2
+same-length-2 c = search needs
+
+returns-2 : tie.Need-returns-2
+returns-2 c =
+    let args = c .before .before .before .before .before .before .before .before .before .before .before .args in
+    let answered = c .before .before .before .before .answer-frames .ensures in (
+      answered .0,
+      answered .1 ∙ stream-whole (now (args .book)) (args .tickets) (now (args .input)) (now (args .out)) (c .before .before .before .before .before .before .before .if1 .left),
+    )
+
+pub stream-spec : {M : Type 1} → statement M
+stream-spec =
+    tie.close (tie.spec returns answer-frames-requires same-length same-length-2 returns-2)

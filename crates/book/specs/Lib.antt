@@ -1,0 +1,9 @@
+pub mod Call
+pub mod Way
+pub mod Run
+pub mod Order
+pub mod Linearizable
+pub mod Demand1
+pub mod Survey
+pub mod Stream
+pub mod Bench

@@ -1,0 +1,110 @@
+-- The way of one frame, as the code goes it: where it is aimed, the slot it uses, what is made of the ticket there. It is shown equal to the call's definition.
+use Prim.Native.Nat.{ℕ, _-_, _≤_, _<_}
+use mathlib.Core.Path.{_≡_}
+use mathlib.Core.Bool.{Bool, cond}
+use lib.ListN.{length}
+use lib.Dec.{eqb, ltb}
+use Rattle.words.specs.Words.{Words, wordsInBook, teamCount}
+use Rattle.tickets.specs.declared.Ticket.{Ticket}
+use Rattle.tickets.specs.declared.Tickets.{Tickets}
+use Rattle.tickets.specs.declared.Stepped.{Stepped}
+use Rattle.tickets.specs.Tickets.{ticketOf, withTicket, hasTicket, wellMade}
+use Rattle.tickets.specs.Steps.{stepOf, lookOf}
+use Rattle.edits.specs.declared.Edit.{Edit}
+use Rattle.edits.specs.Opened.{targetCount, openedTicket}
+use Rattle.frames.specs.declared.Answer.{Answer}
+use Rattle.frames.specs.declared.Answer.the-variants as Answer
+use Rattle.frames.specs.declared.Header.{Header}
+use Rattle.frames.specs.declared.Header.the-variants as Header
+use Rattle.frames.specs.declared.EditRead.{EditRead}
+use Rattle.frames.specs.declared.EditRead.the-variants as EditRead
+use Rattle.frames.specs.Numbers.{Bytes, number16}
+use Rattle.frames.specs.Requests.{partAfterKind, addKind, stepKind, lookKind, lengthOfKind, teamIn, editOfKind}
+use Rattle.frames.specs.Answers.{longestAnswer}
+use Rattle.frames.specs.Fields.{headerOf, editRead, Whole}
+use Rattle.book.specs.declared.Aim.{Aim}
+use Rattle.book.specs.declared.Aim.the-variants as Aim
+use Rattle.book.specs.declared.Settled.{Settled}
+use Rattle.book.specs.Call.{Done, done, doneOf}
+
+-- Where a frame goes: back, refused by 3 to 6; to a look; or to a team, with its kind.
+abbrev pub aimBy : Bytes → Header → Aim
+aimBy frame (Header.Refused number) = Aim.Refused number
+aimBy frame (Header.Kind kind) =
+    let team = teamIn (partAfterKind frame) in
+    cond (eqb kind lookKind) Aim.Look (cond (ltb team teamCount) (Aim.Team kind team) (Aim.Refused 6))
+
+unfoldable pub aimOf : Bytes → Aim
+aimOf frame = aimBy frame (headerOf frame)
+
+-- What is known of a frame that is not refused yet.
+abbrev pub AimKnown : Bytes → Aim → Type 0
+AimKnown frame (Aim.Refused number) = Unit {0}
+AimKnown frame Aim.Look = Whole frame lookKind
+AimKnown frame (Aim.Team kind team) = Whole frame kind × (kind < lookKind) × (team < teamCount)
+
+-- A team's number is below 16.
+abbrev pub SlotKnown : Aim → Type 0
+SlotKnown (Aim.Refused number) = Unit {0}
+SlotKnown Aim.Look = Unit {0}
+SlotKnown (Aim.Team kind team) = team < teamCount
+
+-- What is known where a team's frame is answered.
+pub record TeamFrame (words : Words) (part : Bytes) (kind team : ℕ) : Type 0 where
+  pub book : length words ≡ wordsInBook
+  pub first : addKind ≤ kind
+  pub last : kind ≤ stepKind
+  pub fields : length part ≡ lengthOfKind kind - 2
+  pub team-known : team < teamCount
+
+-- The slot that a frame uses: its team's, else the first, which it leaves as it is.
+abbrev pub slotOf : Aim → ℕ
+slotOf (Aim.Refused number) = 0
+slotOf Aim.Look = 0
+slotOf (Aim.Team kind team) = team
+
+abbrev pub settled : Ticket → Answer → Settled
+settled ticket answer = record { ticket = ticket; answer = answer }
+
+-- A look, or refusal 10.
+unfoldable pub lookSettled : Words → Ticket → ℕ → Settled
+lookSettled words ticket word = settled ticket (cond (ltb word wordsInBook) (Answer.Look (lookOf words word)) (Answer.Refused 10))
+
+-- An edit of a team without a ticket: the ticket that it opens, or refusal 10 or 11.
+unfoldable pub openSettled : Ticket → EditRead → Settled
+openSettled ticket (EditRead.Is edit) = settled (openedTicket edit) (Answer.Standing (targetCount edit))
+openSettled ticket (EditRead.Refused number) = settled ticket (Answer.Refused number)
+
+abbrev pub stepSettled : Stepped × Words → Settled × Words
+stepSettled result = (settled (result .0 .ticket) (Answer.Step (result .0 .answer)), result .1)
+
+-- A team's frame: refusals 7, 8 and 9 by its ticket and kind, else a step or an edit.
+unfoldable pub teamSettled : Words → Ticket → Bytes → ℕ → ℕ → Settled × Words
+teamSettled words ticket part kind team =
+    cond (hasTicket (ticket .phase))
+    (cond (wellMade ticket)
+    (cond (eqb kind stepKind) (stepSettled (stepOf words ticket team)) (settled ticket (Answer.Refused 8), words))
+    (settled ticket (Answer.Refused 7), words))
+    (cond (eqb kind stepKind) (settled ticket (Answer.Refused 9), words) (openSettled ticket (editRead (editOfKind kind part)), words))
+
+-- What an aimed frame makes of the ticket in its slot and of the words, and its answer.
+unfoldable pub settledBy : Words → Ticket → Bytes → Aim → Settled × Words
+settledBy words ticket frame (Aim.Refused number) = (settled ticket (Answer.Refused number), words)
+settledBy words ticket frame Aim.Look = (lookSettled words ticket (number16 (partAfterKind frame) 0), words)
+settledBy words ticket frame (Aim.Team kind team) = teamSettled words ticket (partAfterKind frame) kind team
+
+abbrev pub wayDone : Tickets → ℕ → Settled × Words → Done
+wayDone tickets slot result = done (result .0 .answer) (withTicket tickets slot (result .0 .ticket)) (result .1)
+
+-- The whole way.
+unfoldable pub wayOf : Words → Tickets → Bytes → Done
+wayOf words tickets frame =
+    let slot = slotOf (aimOf frame) in
+    wayDone tickets slot (settledBy words (ticketOf tickets slot) frame (aimOf frame))
+
+-- Statement: where neither refusal 1 nor 2 applies, the way is what the call does.
+abbrev pub WayIsCall : Type 0
+WayIsCall =
+    (words : Words) (tickets : Tickets) (frame out : Bytes)
+    → length words ≡ wordsInBook → longestAnswer ≤ length out
+    → doneOf words tickets frame out ≡ wayOf words tickets frame
