@@ -1,0 +1,545 @@
+//! Writes a stream of frames as sixteen teams would send them, the same one for
+//! the same number of frames and seed:
+//!
+//!     stream FRAMES SEED > FILE
+//!
+//! The teams' lists of legs are kept here, so that an edit quotes what its team
+//! would read in the book. What the stream holds is summed up on standard error.
+
+#![forbid(unsafe_code)]
+
+use plain::*;
+use std::io::{self, BufWriter, Write};
+
+/// Of a thousand frames, how many are looks and how many are to be refused.
+const LOOKS: u64 = 80;
+const REFUSALS: u64 = 5;
+/// Of a hundred edits, how many quote a figure wrongly, and how many go to
+/// passages that other teams work in.
+const WRONG: u64 = 4;
+const AWAY: u64 = 6;
+/// The book fills up to so many legs, then empties to so few, then fills again.
+const MANY: usize = 1_100;
+const FEW: usize = 400;
+
+/// Numbers at random (SplitMix64).
+struct Dice(u64);
+
+impl Dice {
+    fn roll(&mut self) -> u64 {
+        self.0 = self.0.wrapping_add(0x9E37_79B9_7F4A_7C15);
+        let mut z = self.0;
+        z = (z ^ (z >> 30)).wrapping_mul(0xBF58_476D_1CE4_E5B9);
+        z = (z ^ (z >> 27)).wrapping_mul(0x94D0_49BB_1331_11EB);
+        z ^ (z >> 31)
+    }
+
+    /// A number below `end`.
+    fn below(&mut self, end: u64) -> u64 {
+        ((self.roll() as u128 * end as u128) >> 64) as u64
+    }
+
+    fn percent(&mut self, share: u64) -> bool {
+        self.below(100) < share
+    }
+}
+
+#[derive(Clone, Copy, PartialEq)]
+struct Measure {
+    distance: u32,
+    compass: u16,
+    clino: i16,
+}
+
+impl Measure {
+    fn any(dice: &mut Dice) -> Self {
+        Measure {
+            distance: 1 + dice.below(100_000) as u32,
+            compass: dice.below(36_000) as u16,
+            clino: dice.below(18_001) as i16 - 9_000,
+        }
+    }
+}
+
+#[derive(Clone, Copy)]
+struct Leg {
+    number: u16,
+    from: u16,
+    to: u16,
+    measure: Measure,
+}
+
+/// An edit, with what is quoted.
+#[derive(Clone, Copy)]
+enum Edit {
+    Add {
+        p: u16,
+        h: u16,
+        c: u16,
+        leg: Leg,
+    },
+    Correct {
+        p: u16,
+        leg: Leg,
+        new: Measure,
+    },
+    Strike {
+        p: u16,
+        f: u16,
+        s: u16,
+        c: u16,
+        leg: Leg,
+    },
+    Move {
+        p: u16,
+        q: u16,
+        f: u16,
+        s: u16,
+        c: u16,
+        h: u16,
+        d: u16,
+        leg: Leg,
+    },
+}
+
+/// The passages' lists, newest leg last.
+#[derive(Clone)]
+struct Lists(Vec<Vec<Leg>>);
+
+impl Lists {
+    fn of(&self, p: u16) -> &Vec<Leg> {
+        &self.0[p as usize]
+    }
+
+    fn legs(&self) -> usize {
+        self.0.iter().map(Vec::len).sum()
+    }
+
+    fn newest(&self, p: u16) -> u16 {
+        self.of(p).last().map_or(0, |leg| leg.number)
+    }
+
+    fn count(&self, p: u16) -> u16 {
+        self.of(p).len() as u16
+    }
+
+    /// The next newer and the next older leg.
+    fn beside(&self, p: u16, at: usize) -> (u16, u16) {
+        let number = |at: usize| self.of(p).get(at).map_or(0, |leg| leg.number);
+        (number(at + 1), if at == 0 { 0 } else { number(at - 1) })
+    }
+
+    fn find(&self, p: u16, number: u16) -> Option<usize> {
+        self.of(p).iter().position(|leg| leg.number == number)
+    }
+
+    fn has(&self, number: u16) -> bool {
+        (0..PASSAGES).any(|p| self.find(p, number).is_some())
+    }
+
+    /// Where a leg is, if it is there with the figures quoted.
+    fn quoted(&self, p: u16, leg: &Leg, with_measure: bool) -> Option<usize> {
+        let at = self.find(p, leg.number)?;
+        let there = &self.of(p)[at];
+        let same = there.from == leg.from
+            && there.to == leg.to
+            && (!with_measure || there.measure == leg.measure);
+        same.then_some(at)
+    }
+
+    /// Makes the edit if it succeeds, and says whether it did.
+    fn perform(&mut self, edit: &Edit) -> bool {
+        match *edit {
+            Edit::Add { p, h, c, leg } => {
+                if self.newest(p) != h || self.count(p) != c || self.has(leg.number) {
+                    return false;
+                }
+                self.0[p as usize].push(leg);
+            }
+            Edit::Correct { p, leg, new } => {
+                let Some(at) = self.quoted(p, &leg, true) else {
+                    return false;
+                };
+                self.0[p as usize][at].measure = new;
+            }
+            Edit::Strike { p, f, s, c, leg } => {
+                let Some(at) = self.quoted(p, &leg, true) else {
+                    return false;
+                };
+                if self.count(p) != c || self.beside(p, at) != (f, s) {
+                    return false;
+                }
+                self.0[p as usize].remove(at);
+            }
+            Edit::Move {
+                p,
+                q,
+                f,
+                s,
+                c,
+                h,
+                d,
+                leg,
+            } => {
+                let Some(at) = self.quoted(p, &leg, false) else {
+                    return false;
+                };
+                if self.count(p) != c || self.beside(p, at) != (f, s) {
+                    return false;
+                }
+                if self.newest(q) != h || self.count(q) != d {
+                    return false;
+                }
+                let leg = self.0[p as usize].remove(at);
+                self.0[q as usize].push(leg);
+            }
+        }
+        true
+    }
+}
+
+/// A frame being written: its bytes after the length.
+struct Writer {
+    bytes: Frame,
+    end: usize,
+}
+
+impl Writer {
+    fn new(kind: u16, team: u16) -> Self {
+        let mut writer = Writer {
+            bytes: [0; LONGEST_FRAME],
+            end: 2,
+        };
+        writer.field(kind);
+        writer.field(team);
+        writer
+    }
+
+    fn field(&mut self, value: u16) {
+        self.bytes[self.end..self.end + 2].copy_from_slice(&value.to_le_bytes());
+        self.end += 2;
+    }
+
+    fn fields(&mut self, values: &[u16]) {
+        values.iter().for_each(|&value| self.field(value));
+    }
+
+    fn measure(&mut self, measure: Measure) {
+        self.field(measure.distance as u16);
+        self.field((measure.distance >> 16) as u16);
+        self.field(measure.compass);
+        self.field(measure.clino as u16);
+    }
+
+    fn whole(mut self) -> (Frame, usize) {
+        let length = (self.end - 2) as u16;
+        self.bytes[..2].copy_from_slice(&length.to_le_bytes());
+        (self.bytes, self.end)
+    }
+}
+
+fn edit_frame(team: u16, edit: &Edit) -> (Frame, usize) {
+    let writer = match *edit {
+        Edit::Add { p, h, c, leg } => {
+            let mut writer = Writer::new(ADD, team);
+            writer.fields(&[p, leg.number, h, c, leg.from, leg.to]);
+            writer.measure(leg.measure);
+            writer
+        }
+        Edit::Correct { p, leg, new } => {
+            let mut writer = Writer::new(CORRECT, team);
+            writer.fields(&[p, leg.number, leg.from, leg.to]);
+            writer.measure(leg.measure);
+            writer.measure(new);
+            writer
+        }
+        Edit::Strike { p, f, s, c, leg } => {
+            let mut writer = Writer::new(STRIKE, team);
+            writer.fields(&[p, f, leg.number, s, c, leg.from, leg.to]);
+            writer.measure(leg.measure);
+            writer
+        }
+        Edit::Move {
+            p,
+            q,
+            f,
+            s,
+            c,
+            h,
+            d,
+            leg,
+        } => {
+            let mut writer = Writer::new(MOVE, team);
+            writer.fields(&[p, q, f, leg.number, s, c, h, d, leg.from, leg.to]);
+            writer
+        }
+    };
+    writer.whole()
+}
+
+struct Teams {
+    dice: Dice,
+    lists: Lists,
+    /// The edit of each team's ticket.
+    open: [Option<Edit>; TEAMS],
+    /// Whether it was found stale, and is being given back.
+    found: [bool; TEAMS],
+    filling: bool,
+}
+
+impl Teams {
+    /// A passage: one of the team's own two, or now and then any.
+    fn passage(&mut self, team: u16) -> u16 {
+        if self.dice.percent(AWAY) {
+            self.dice.below(PASSAGES as u64) as u16
+        } else {
+            2 * team + self.dice.below(2) as u16
+        }
+    }
+
+    /// A new leg under a number that no list and no open edit has.
+    fn new_leg(&mut self) -> Leg {
+        let number = loop {
+            let number = 1 + self.dice.below(LAST_LEG as u64) as u16;
+            let asked = |edit: &Option<Edit>| matches!(edit, Some(Edit::Add { leg, .. }) if leg.number == number);
+            if !self.lists.has(number) && !self.open.iter().any(asked) {
+                break number;
+            }
+        };
+        let from = self.dice.below(65_536) as u16;
+        let to = from.wrapping_add(1 + self.dice.below(65_535) as u16);
+        Leg {
+            number,
+            from,
+            to,
+            measure: Measure::any(&mut self.dice),
+        }
+    }
+
+    /// An edit as the book is now; wrong in one figure now and then.
+    fn edit(&mut self, team: u16) -> Edit {
+        let legs = self.lists.legs();
+        if legs > MANY {
+            self.filling = false;
+        } else if legs < FEW {
+            self.filling = true;
+        }
+        let p = self.passage(team);
+        let count = self.lists.count(p);
+        let off = self.dice.percent(WRONG) as u16;
+        let adds = if self.filling { 45 } else { 20 };
+        let choice = self.dice.below(100);
+        if choice < adds || count == 0 {
+            let leg = self.new_leg();
+            return Edit::Add {
+                p,
+                h: self.lists.newest(p),
+                c: count + off,
+                leg,
+            };
+        }
+        // Work is mostly at the newer end.
+        let depth = self
+            .dice
+            .below(count as u64)
+            .min(self.dice.below(count as u64)) as usize;
+        let at = count as usize - 1 - depth;
+        let leg = self.lists.of(p)[at];
+        let (f, s) = self.lists.beside(p, at);
+        if choice < 65 {
+            let c = count + off;
+            return Edit::Strike { p, f, s, c, leg };
+        }
+        if choice < 82 {
+            let mut leg = leg;
+            if off == 1 {
+                leg.measure.compass = (leg.measure.compass + 1) % 36_000;
+            }
+            return Edit::Correct {
+                p,
+                leg,
+                new: Measure::any(&mut self.dice),
+            };
+        }
+        let q = loop {
+            let q = self.passage(team);
+            if q != p {
+                break q;
+            }
+        };
+        let (h, d) = (self.lists.newest(q), self.lists.count(q) + off);
+        Edit::Move {
+            p,
+            q,
+            f,
+            s,
+            c: count,
+            h,
+            d,
+            leg,
+        }
+    }
+
+    /// A frame that is refused, for each reason that a stream can give.
+    fn refusal(&mut self) -> (Frame, usize) {
+        let team = self.dice.below(TEAMS as u64) as u16;
+        let has_ticket = self.open[team as usize].is_some();
+        let leg = self.new_leg();
+        let add = Edit::Add {
+            p: 0,
+            h: 0,
+            c: 0,
+            leg,
+        };
+        match self.dice.below(8) {
+            0 => {
+                // A whole frame of two or three bytes.
+                let mut bytes = [0; LONGEST_FRAME];
+                bytes[0] = self.dice.below(2) as u8;
+                (bytes, 2 + bytes[0] as usize)
+            }
+            1 => Writer::new(7, team).whole(),
+            2 => {
+                let mut writer = Writer::new(STEP, team);
+                writer.field(0);
+                writer.whole()
+            }
+            3 => Writer::new(STEP, 16 + team).whole(),
+            4 => Writer::new(LOOK, 4_096 + team).whole(),
+            // An edit over a ticket, or a step without one.
+            _ if has_ticket => edit_frame(team, &add),
+            5 => Writer::new(STEP, team).whole(),
+            6 => edit_frame(
+                team,
+                &Edit::Add {
+                    p: 32,
+                    h: 0,
+                    c: 0,
+                    leg,
+                },
+            ),
+            _ => edit_frame(
+                team,
+                &Edit::Add {
+                    p: 0,
+                    h: leg.number,
+                    c: 0,
+                    leg,
+                },
+            ),
+        }
+    }
+
+    fn frame(&mut self) -> (Frame, usize) {
+        let choice = self.dice.below(1_000);
+        if choice < REFUSALS {
+            return self.refusal();
+        }
+        if choice < REFUSALS + LOOKS {
+            // Half of the looks go to passages.
+            let end = if self.dice.percent(50) {
+                64
+            } else {
+                WORDS as u64
+            };
+            return Writer::new(LOOK, self.dice.below(end) as u16).whole();
+        }
+        let team = self.dice.below(TEAMS as u64) as u16;
+        if self.open[team as usize].is_some() {
+            return Writer::new(STEP, team).whole();
+        }
+        let edit = self.edit(team);
+        self.open[team as usize] = Some(edit);
+        edit_frame(team, &edit)
+    }
+
+    /// Takes in an answer to a step, and checks it against the lists.
+    fn heard(&mut self, team: usize, answer: Answer) {
+        let Some(edit) = self.open[team] else { return };
+        let targets = match edit {
+            Edit::Add { .. } | Edit::Strike { .. } => 5,
+            Edit::Correct { .. } => 2,
+            Edit::Move { .. } => 6,
+        };
+        match answer.kind() {
+            CLAIMED if answer.field() == targets => {
+                assert!(
+                    self.lists.perform(&edit),
+                    "granted, and the lists say stale"
+                );
+            }
+            FOUND => {
+                self.refuted(&edit);
+                self.found[team] = true;
+            }
+            GRANTED => self.open[team] = None,
+            STALE => {
+                if !self.found[team] {
+                    self.refuted(&edit);
+                }
+                self.found[team] = false;
+                self.open[team] = None;
+            }
+            _ => {}
+        }
+    }
+
+    fn refuted(&self, edit: &Edit) {
+        assert!(
+            !self.lists.clone().perform(edit),
+            "stale, and the lists say granted"
+        );
+    }
+}
+
+fn main() -> io::Result<()> {
+    let mut arguments = std::env::args()
+        .skip(1)
+        .map(|argument| argument.parse::<u64>());
+    let (Some(Ok(frames)), Some(Ok(seed)), None) =
+        (arguments.next(), arguments.next(), arguments.next())
+    else {
+        eprintln!("usage: stream FRAMES SEED > FILE");
+        std::process::exit(2);
+    };
+    let mut out = BufWriter::with_capacity(1 << 20, io::stdout().lock());
+    let mut book = Book::fresh();
+    let mut teams = Teams {
+        dice: Dice(seed),
+        lists: Lists(vec![Vec::new(); PASSAGES as usize]),
+        open: [None; TEAMS],
+        found: [false; TEAMS],
+        filling: true,
+    };
+    let mut kinds = [0u64; 256];
+    for _ in 0..frames {
+        let (frame, bytes) = teams.frame();
+        out.write_all(&frame[..bytes])?;
+        let answer = book.answer(&frame);
+        kinds[answer.kind() as usize] += 1;
+        let kind = u16::from_le_bytes([frame[2], frame[3]]);
+        if kind == STEP && answer.kind() != REFUSED {
+            teams.heard(frame[4] as usize, answer);
+        }
+    }
+    out.flush()?;
+    let names = [
+        (STANDING, "Standing"),
+        (CLAIMED, "Claimed"),
+        (WAITING, "Waiting"),
+        (FOUND, "Found"),
+        (PUT, "Put"),
+        (RETURNED, "Returned"),
+        (GRANTED, "Granted"),
+        (STALE, "Stale"),
+        (VALUE, "Value"),
+        (HELD, "Held"),
+        (REFUSED, "Refused"),
+    ];
+    let counts = names.map(|(kind, name)| format!("{name} {}", kinds[kind as usize]));
+    eprintln!(
+        "{frames} frames, seed {seed}; answers: {}",
+        counts.join(", ")
+    );
+    Ok(())
+}

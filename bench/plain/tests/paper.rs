@@ -1,0 +1,495 @@
+//! The paper's examples and every refusal, put to a whole program: the plain
+//! one, or the one that the variable PROGRAM names.
+
+use std::io::{Read, Write};
+use std::process::{Child, Command, Stdio};
+
+fn start() -> Child {
+    let program = std::env::var("PROGRAM").unwrap_or(env!("CARGO_BIN_EXE_plain").to_string());
+    Command::new(program)
+        .stdin(Stdio::piped())
+        .stdout(Stdio::piped())
+        .spawn()
+        .expect("the program starts")
+}
+
+fn answers(input: &[u8]) -> Vec<u8> {
+    let mut child = start();
+    let mut stdin = child.stdin.take().unwrap();
+    let input = input.to_vec();
+    // A program that stops early may close its input.
+    let writer = std::thread::spawn(move || drop(stdin.write_all(&input)));
+    let mut output = Vec::new();
+    child
+        .stdout
+        .take()
+        .unwrap()
+        .read_to_end(&mut output)
+        .unwrap();
+    writer.join().unwrap();
+    assert!(child.wait().unwrap().success());
+    output
+}
+
+fn frame(fields: &[u16]) -> Vec<u8> {
+    let mut bytes = (2 * fields.len() as u16).to_le_bytes().to_vec();
+    fields
+        .iter()
+        .for_each(|field| bytes.extend(field.to_le_bytes()));
+    bytes
+}
+
+fn step(team: u16) -> Vec<u8> {
+    frame(&[5, team])
+}
+
+fn look(word: u16) -> Vec<u8> {
+    frame(&[6, word])
+}
+
+fn value(value: u64) -> Vec<u8> {
+    frame(&[
+        136,
+        value as u16,
+        (value >> 16) as u16,
+        (value >> 32) as u16,
+        (value >> 48) as u16,
+    ])
+}
+
+fn granted(tries: u16) -> Vec<u8> {
+    frame(&[134, tries, 0])
+}
+
+fn stale(word: u16, tries: u16) -> Vec<u8> {
+    frame(&[135, word, tries, 0])
+}
+
+fn refused(number: u16) -> Vec<u8> {
+    frame(&[138, number])
+}
+
+/// Distance 5,000, compass 9,000, clino -150.
+const M: [u16; 4] = [5_000, 0, 9_000, -150i16 as u16];
+const MEASURE: u64 = 76_022_100_792_200;
+/// Distance 100,000, compass 35,999, clino 9,000.
+const M2: [u16; 4] = [34_464, 1, 35_999, 9_000];
+const MEASURE2: u64 = 100_000 + (35_999 << 17) + (18_000 << 33);
+
+fn add(team: u16, p: u16, r: u16, h: u16, c: u16) -> Vec<u8> {
+    frame(&[&[1, team, p, r, h, c, 1, 2], &M[..]].concat())
+}
+
+fn correct(team: u16, p: u16, r: u16) -> Vec<u8> {
+    frame(&[&[2, team, p, r, 1, 2], &M[..], &M2[..]].concat())
+}
+
+fn strike(team: u16, p: u16, f: u16, r: u16, s: u16, c: u16) -> Vec<u8> {
+    frame(&[&[3, team, p, f, r, s, c, 1, 2], &M[..]].concat())
+}
+
+fn move_leg(team: u16, p: u16, q: u16, [f, r, s, c]: [u16; 4], [h, d]: [u16; 2]) -> Vec<u8> {
+    frame(&[4, team, p, q, f, r, s, c, h, d, 1, 2])
+}
+
+fn place(p: u64) -> u64 {
+    p + 1 + 64 + 2 * 4_194_304
+}
+
+/// Steps of a ticket that is granted at once, and their answers.
+fn through(team: u16, n: u16) -> [Vec<u8>; 2] {
+    let mut heard = frame(&[128, n]);
+    (1..=n).for_each(|k| heard.extend(frame(&[129, k])));
+    (1..n).for_each(|k| heard.extend(frame(&[132, k])));
+    heard.extend(granted(2 * n));
+    [step(team).repeat(2 * n as usize), heard]
+}
+
+/// Puts a list of frames with their answers to the program.
+fn check(pairs: &[[Vec<u8>; 2]]) {
+    let sent: Vec<u8> = pairs.iter().flat_map(|pair| pair[0].clone()).collect();
+    let due: Vec<u8> = pairs.iter().flat_map(|pair| pair[1].clone()).collect();
+    assert_eq!(answers(&sent), due);
+}
+
+fn edit(frame: Vec<u8>, team: u16, n: u16) -> [Vec<u8>; 2] {
+    let [steps, heard] = through(team, n);
+    [[frame, steps].concat(), heard]
+}
+
+#[test]
+fn whole_case() {
+    let mut input = vec![
+        0x18, 0x00, 0x01, 0x00, 0x00, 0x00, 0x00, 0x00, 0x01, 0x00, 0x00, 0x00, 0x00, 0x00, 0x01,
+        0x00, 0x02, 0x00, 0x88, 0x13, 0x00, 0x00, 0x28, 0x23, 0x6A, 0xFF,
+    ];
+    input.extend([0x04, 0x00, 0x05, 0x00, 0x00, 0x00].repeat(10));
+    let mut output = vec![0x04, 0x00, 0x80, 0x00, 0x05, 0x00];
+    (1..=5).for_each(|k| output.extend([0x04, 0x00, 0x81, 0x00, k, 0x00]));
+    (1..=4).for_each(|k| output.extend([0x04, 0x00, 0x84, 0x00, k, 0x00]));
+    output.extend([0x06, 0x00, 0x86, 0x00, 0x0A, 0x00, 0x00, 0x00]);
+    assert_eq!(answers(&input), output);
+}
+
+#[test]
+fn examples_1_and_2_and_3() {
+    check(&[
+        edit(add(0, 0, 1, 0, 0), 0, 5),
+        [look(0), value(1)],
+        [look(1), value(1)],
+        [look(64), value(0)],
+        [look(65), value(8_388_673)],
+        [look(66), value(MEASURE)],
+        edit(add(0, 0, 1_344, 1, 1), 0, 5),
+        [look(4_093), value(1)],
+        [look(4_095), value(MEASURE)],
+    ]);
+}
+
+#[test]
+fn examples_5_and_6_and_7_and_11() {
+    let add = |m: [u16; 4]| frame(&[&[1, 0, 0, 1, 0, 0, 1, 2], &m[..]].concat());
+    check(&[
+        [add([5_000, 0, 9_000, 9_001]), refused(10)],
+        [add([5_000, 0, 9_000, -9_001i16 as u16]), refused(10)],
+        [add([0, 0, 9_000, 0]), refused(10)],
+        [add([34_465, 1, 9_000, 0]), refused(10)],
+        [add([5_000, 0, 36_000, 0]), refused(10)],
+        [strike(0, 0, 3, 3, 0, 1), refused(11)],
+        [add([34_464, 1, 9_000, -9_000i16 as u16]), frame(&[128, 5])],
+        [step(0).repeat(10), through(0, 5)[1][6..].to_vec()],
+        [look(66), value(100_000 + (9_000 << 17))],
+    ]);
+}
+
+#[test]
+fn example_10() {
+    check(&[
+        [add(0, 0, 1, 0, 1), frame(&[128, 5])],
+        [step(0), frame(&[129, 1])],
+        [look(0), frame(&[137])],
+        [step(0), frame(&[131, 1])],
+        [look(0), frame(&[137])],
+        [step(0), stale(1, 3)],
+        [look(0), value(0)],
+        [step(0), refused(9)],
+    ]);
+}
+
+#[test]
+fn example_12() {
+    check(&[
+        [add(0, 0, 1, 0, 0), frame(&[128, 5])],
+        [add(1, 0, 2, 0, 0), frame(&[128, 5])],
+        [step(0), frame(&[129, 1])],
+        [step(1), frame(&[130, 0])],
+        [step(0).repeat(9), through(0, 5)[1][12..].to_vec()],
+        [step(1), stale(0, 2)],
+    ]);
+}
+
+#[test]
+fn waits_are_tries() {
+    let claimed = |k| frame(&[129, k]);
+    let put = |k| frame(&[132, k]);
+    check(&[
+        edit(add(0, 0, 1, 0, 0), 0, 5),
+        [correct(3, 0, 1), frame(&[128, 2])],
+        [step(3), claimed(1)],
+        // A move of leg 1 waits at its place, and is granted after the correction.
+        [move_leg(4, 0, 1, [0, 1, 0, 1], [0, 0]), frame(&[128, 6])],
+        [step(4).repeat(5), (1..=5).flat_map(claimed).collect()],
+        [step(4).repeat(2), frame(&[130, 65]).repeat(2)],
+        [step(3), claimed(2)],
+        [step(4), frame(&[130, 65])],
+        [step(3), put(1)],
+        [step(4), claimed(6)],
+        [step(3), granted(4)],
+        [step(4).repeat(5), (1..=5).flat_map(put).collect()],
+        [step(4), granted(15)],
+        [
+            [look(0), look(1), look(2), look(3)].concat(),
+            [value(0), value(0), value(1), value(1)].concat(),
+        ],
+        [
+            [look(64), look(65), look(66)].concat(),
+            [value(0), value(place(1)), value(MEASURE2)].concat(),
+        ],
+    ]);
+}
+
+#[test]
+fn edits_at_both_ends_and_amid() {
+    check(&[
+        edit(add(0, 5, 20, 0, 0), 0, 5),
+        edit(add(1, 5, 10, 20, 1), 1, 5),
+        edit(add(2, 5, 30, 10, 2), 2, 5),
+        edit(add(15, 6, 40, 0, 0), 15, 5),
+        // 30, 10, 20: the middle one goes to passage 6.
+        edit(move_leg(0, 5, 6, [30, 10, 20, 3], [40, 1]), 0, 6),
+        [
+            [look(10), look(11)].concat(),
+            [value(30), value(2)].concat(),
+        ],
+        [
+            [look(12), look(13)].concat(),
+            [value(10), value(2)].concat(),
+        ],
+        [
+            [look(151), look(91), look(121)].concat(),
+            [value(20), value(40), value(0)].concat(),
+        ],
+        [look(92), value(place(6))],
+        // The oldest is struck, behind a larger number; then the newest.
+        edit(strike(7, 5, 30, 20, 0, 2), 7, 5),
+        [
+            [look(121), look(122), look(123), look(151)].concat(),
+            value(0).repeat(4),
+        ],
+        edit(strike(7, 5, 0, 30, 0, 1), 7, 5),
+        [
+            [look(10), look(11), look(151), look(152), look(153)].concat(),
+            value(0).repeat(5),
+        ],
+        // A quoted figure that isn't so.
+        [strike(7, 6, 0, 10, 40, 3), frame(&[128, 5])],
+        [step(7), frame(&[129, 1])],
+        [step(7), frame(&[131, 13])],
+        [step(7), stale(13, 3)],
+        [strike(7, 6, 0, 40, 0, 2), frame(&[128, 5])],
+        [step(7), stale(12, 1)],
+        [
+            [look(12), look(13)].concat(),
+            [value(10), value(2)].concat(),
+        ],
+    ]);
+}
+
+#[test]
+fn giving_back() {
+    // A leg that is in another passage: found at its place, three words claimed.
+    check(&[
+        edit(add(0, 0, 1, 0, 0), 0, 5),
+        [add(5, 1, 1, 0, 0), frame(&[128, 5])],
+        [
+            step(5).repeat(3),
+            (1..=3).flat_map(|k| frame(&[129, k])).collect(),
+        ],
+        [step(5), frame(&[131, 65])],
+        [
+            [look(2), look(3), look(64)].concat(),
+            frame(&[137]).repeat(3),
+        ],
+        [
+            step(5).repeat(2),
+            [frame(&[133, 1]), frame(&[133, 2])].concat(),
+        ],
+        [
+            [look(2), look(3), look(64)].concat(),
+            [value(0), value(0), frame(&[137])].concat(),
+        ],
+        [step(5), stale(65, 7)],
+        [
+            [look(64), look(65)].concat(),
+            [value(0), value(place(0))].concat(),
+        ],
+    ]);
+}
+
+#[test]
+fn opposite_moves_go_by_position() {
+    // Passage 25 has rank 0, passage 0 rank 3: both claim passage 25 first.
+    check(&[
+        edit(add(0, 0, 1, 0, 0), 0, 5),
+        edit(add(0, 25, 2, 0, 0), 0, 5),
+        [move_leg(0, 0, 25, [0, 1, 0, 1], [2, 1]), frame(&[128, 6])],
+        [move_leg(1, 25, 0, [0, 2, 0, 1], [1, 1]), frame(&[128, 6])],
+        [step(0), frame(&[129, 1])],
+        [
+            [look(0), look(50), look(51)].concat(),
+            [value(1), frame(&[137]), value(1)].concat(),
+        ],
+        [step(1), frame(&[130, 50])],
+        [step(0).repeat(11), through(0, 6)[1][12..].to_vec()],
+        [step(1), stale(50, 2)],
+        [
+            [look(50), look(51), look(0), look(1)].concat(),
+            [value(1), value(2), value(0), value(0)].concat(),
+        ],
+    ]);
+}
+
+#[test]
+fn refusals() {
+    let with = |mut bytes: Vec<u8>, at: usize, value: u16| {
+        bytes[2 + 2 * at..4 + 2 * at].copy_from_slice(&value.to_le_bytes());
+        [bytes, refused(10)]
+    };
+    let eleven = |bytes: Vec<u8>| [bytes, refused(11)];
+    let good_move = || move_leg(0, 0, 1, [2, 3, 4, 1], [5, 0]);
+    let good_strike = || strike(0, 0, 2, 3, 4, 1);
+    let at = |mut bytes: Vec<u8>, at: usize, value: u16| {
+        bytes[2 + 2 * at..4 + 2 * at].copy_from_slice(&value.to_le_bytes());
+        bytes
+    };
+    let mut pairs = vec![
+        [vec![0, 0], refused(3)],
+        [vec![1, 0, 5], refused(3)],
+        [frame(&[0]), refused(4)],
+        [frame(&[7, 99]), refused(4)],
+        [frame(&[65_535, 0]), refused(4)],
+        [vec![3, 0, 7, 0, 0], refused(4)],
+        [frame(&[5]), refused(5)],
+        [frame(&[5, 16, 0]), refused(5)],
+        [vec![3, 0, 5, 0, 0], refused(5)],
+        [frame(&[1; 31]), refused(5)],
+        [frame(&[6, 0, 0]), refused(5)],
+        [step(16), refused(6)],
+        [step(65_535), refused(6)],
+        [add(16, 99, 0, 0, 0), refused(6)],
+        [step(15), refused(9)],
+        [look(4_096), refused(10)],
+        [look(65_535), refused(10)],
+        // A team with a ticket: 8 before 10 and 11.
+        [add(9, 31, 1, 0, 0), frame(&[128, 5])],
+        [add(9, 99, 1, 0, 0), refused(8)],
+        [correct(9, 99, 1), refused(8)],
+        [strike(9, 0, 3, 3, 0, 1), refused(8)],
+        [move_leg(9, 0, 0, [0, 1, 0, 1], [0, 0]), refused(8)],
+        // 10 before 11: from is to, and clino is 9,001.
+        with(at(add(0, 0, 1, 0, 0), 6, 2), 11, 9_001),
+        // add: kind team p r h c from to M
+        with(add(0, 0, 1, 0, 0), 2, 32),
+        with(add(0, 0, 1, 0, 0), 3, 0),
+        with(add(0, 0, 1, 0, 0), 3, 1_345),
+        with(add(0, 0, 1, 0, 0), 4, 1_345),
+        with(add(0, 0, 1, 0, 0), 5, 1_344),
+        eleven(at(add(0, 0, 1, 0, 0), 6, 2)),
+        eleven(add(0, 0, 1, 1, 0)),
+        // correct: kind team p r from to M M
+        with(correct(0, 0, 1), 2, 32),
+        with(correct(0, 0, 1), 3, 0),
+        with(correct(0, 0, 1), 3, 1_345),
+        with(correct(0, 0, 1), 6, 0),
+        with(correct(0, 0, 1), 8, 36_000),
+        with(correct(0, 0, 1), 9, 9_001),
+        with(correct(0, 0, 1), 11, 2),
+        with(correct(0, 0, 1), 12, 36_000),
+        with(correct(0, 0, 1), 13, 9_001),
+        eleven(at(correct(0, 0, 1), 4, 2)),
+        // strike: kind team p f r s c from to M
+        with(good_strike(), 2, 32),
+        with(good_strike(), 3, 1_345),
+        with(good_strike(), 4, 0),
+        with(good_strike(), 4, 1_345),
+        with(good_strike(), 5, 1_345),
+        with(good_strike(), 6, 0),
+        with(good_strike(), 6, 1_345),
+        with(good_strike(), 9, 0),
+        eleven(at(good_strike(), 7, 2)),
+        eleven(at(good_strike(), 3, 3)),
+        eleven(at(good_strike(), 5, 3)),
+        eleven(at(good_strike(), 5, 2)),
+        // move: kind team p q f r s c h d from to
+        with(good_move(), 2, 32),
+        with(good_move(), 3, 32),
+        with(good_move(), 4, 1_345),
+        with(good_move(), 5, 0),
+        with(good_move(), 5, 1_345),
+        with(good_move(), 6, 1_345),
+        with(good_move(), 7, 0),
+        with(good_move(), 7, 1_345),
+        with(good_move(), 8, 1_345),
+        with(good_move(), 9, 1_344),
+        eleven(at(good_move(), 10, 2)),
+        eleven(at(good_move(), 3, 0)),
+        eleven(at(good_move(), 4, 3)),
+        eleven(at(good_move(), 4, 4)),
+        eleven(at(good_move(), 4, 5)),
+        eleven(at(good_move(), 6, 3)),
+        eleven(at(good_move(), 6, 5)),
+        eleven(at(good_move(), 8, 3)),
+    ];
+    // The ends of the ranges are in range, and none may be named often.
+    let standing = |n: u16| frame(&[128, n]);
+    pairs.extend([
+        [add(0, 31, 1_344, 1_343, 1_343), standing(5)],
+        [correct(1, 31, 1_344), standing(2)],
+        [strike(2, 31, 0, 1_344, 0, 1_344), standing(5)],
+        [
+            move_leg(3, 31, 0, [0, 1_344, 0, 1_344], [0, 1_343]),
+            standing(6),
+        ],
+        [
+            move_leg(4, 0, 31, [1_344, 1, 1_343, 1], [1_342, 0]),
+            standing(6),
+        ],
+    ]);
+    check(&pairs);
+}
+
+#[test]
+fn endings() {
+    assert_eq!(answers(&[]), []);
+    assert_eq!(answers(&[4]), refused(3));
+    assert_eq!(answers(&[0xFF]), refused(3));
+    assert_eq!(answers(&[4, 0]), refused(3));
+    assert_eq!(answers(&[4, 0, 5, 0, 0]), refused(3));
+    assert_eq!(answers(&[1, 0]), refused(3));
+    // Above 62: once and at once, whatever follows.
+    assert_eq!(answers(&[63, 0]), refused(3));
+    assert_eq!(
+        answers(&[[63, 0].to_vec(), vec![0; 63], look(0)].concat()),
+        refused(3)
+    );
+    assert_eq!(answers(&[0, 1, 6, 0, 0, 0, 6, 0]), refused(3));
+    assert_eq!(answers(&[62, 0]), refused(3));
+    // After good frames.
+    assert_eq!(
+        answers(&[look(0), vec![4]].concat()),
+        [value(0), refused(3)].concat()
+    );
+    assert_eq!(
+        answers(&[look(0), vec![0xFF, 0xFF], look(0)].concat()),
+        [value(0), refused(3)].concat()
+    );
+    // Two bytes and three are whole frames, and reading goes on.
+    let small = [vec![0, 0], vec![1, 0, 6], look(1), vec![0, 0]].concat();
+    assert_eq!(
+        answers(&small),
+        [refused(3), refused(3), value(0), refused(3)].concat()
+    );
+    // 62 is a whole frame.
+    let longest = [vec![62, 0, 6, 0], vec![0; 60], look(1)].concat();
+    assert_eq!(answers(&longest), [refused(5), value(0)].concat());
+}
+
+#[test]
+fn long_input_across_buffers() {
+    // Two-byte frames give the most answer for a byte; an odd start shifts all
+    // that follows over every edge of a buffer.
+    let count = 200_001;
+    let input = [vec![1, 0, 9], [0, 0].repeat(count), look(0).repeat(50_000)].concat();
+    assert_eq!(
+        answers(&input),
+        [refused(3).repeat(count + 1), value(0).repeat(50_000)].concat()
+    );
+}
+
+#[test]
+fn answers_come_without_waiting_for_more() {
+    let mut child = start();
+    let mut stdin = child.stdin.take().unwrap();
+    let mut stdout = child.stdout.take().unwrap();
+    for _ in 0..3 {
+        let [first, rest] = [&look(0)[..3], &look(0)[3..]].map(<[u8]>::to_vec);
+        stdin.write_all(&first).unwrap();
+        std::thread::sleep(std::time::Duration::from_millis(20));
+        stdin.write_all(&rest).unwrap();
+        let mut answer = [0; 12];
+        stdout.read_exact(&mut answer).unwrap();
+        assert_eq!(answer.to_vec(), value(0));
+    }
+    drop(stdin);
+    assert!(child.wait().unwrap().success());
+}

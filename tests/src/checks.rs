@@ -1,0 +1,254 @@
+//! Unit tests of the model, of demand 3's check and of the streams.
+
+use crate::demand3::{check, sweep, Plain};
+use crate::frames::{split, Answer, Field::*, Kind, Request};
+use crate::layout::*;
+use crate::lent;
+use crate::model::{survey, Desk};
+use crate::streams::{self, Prng};
+use crate::tally::Tally;
+use crate::wrong::{self, Fault, FAULTS};
+
+/// The Add of the whole case, by any team.
+fn first_add(team: i64) -> Request {
+    let seen = [(Team, team), (P, 0), (R, 1 + team), (H, 0), (C, 0), (From, 1), (To, 2)];
+    let mut add = Request::new(Kind::Add, &seen);
+    set(&mut add, &[(Distance, 5_000), (Compass, 9_000), (Clino, -150)]);
+    add
+}
+
+fn set(request: &mut Request, values: &[(crate::frames::Field, i64)]) {
+    values.iter().for_each(|(field, value)| request.set(*field, *value));
+}
+
+fn asked(desk: &mut Desk, request: Request) -> Answer {
+    desk.answer(&request.bytes())
+}
+
+/// What a fresh desk answers to the first Add with some fields changed.
+fn fresh_answer(values: &[(crate::frames::Field, i64)]) -> Answer {
+    let mut add = first_add(0);
+    set(&mut add, values);
+    asked(&mut Desk::fresh(), add)
+}
+
+/// All answers to a program's frames, wrong or not.
+fn answers(fault: Fault, input: &[u8]) -> Vec<u8> {
+    let mut desk = Desk::fresh();
+    let answer = |frame| wrong::answer(fault, &mut desk, frame).bytes();
+    split(input).into_iter().flat_map(answer).collect()
+}
+
+#[test]
+fn the_whole_case() {
+    let (input, output) = streams::whole_case();
+    assert_eq!(survey(&input), output);
+    let plain = check(&input, &output).unwrap().plain;
+    assert_eq!((plain.newest(0), plain.count(0), plain.word(65)), (1, 1, 8_388_673));
+}
+
+#[test]
+fn the_twelve_bench_examples() {
+    let leg = Measure { distance: 5_000, compass: 9_000, clino: -150 };
+    assert_eq!(leg.written(), 76_022_100_792_200, "1");
+    assert_eq!(place(0, 1, 2), 8_388_673, "2");
+    assert_eq!(measure_word(1_344), 4_095, "3");
+    let lowest = Measure { clino: -9_000, ..leg };
+    assert_eq!(lowest.written(), 5_000 + 131_072 * 9_000, "4");
+    assert_eq!(fresh_answer(&[(Clino, 9_001)]), Answer::Refused(10), "5");
+    assert_eq!(fresh_answer(&[(Distance, 0)]), Answer::Refused(10), "6");
+    assert_eq!(fresh_answer(&[(Distance, 100_000)]), Answer::Standing(5), "7");
+    assert_eq!((position(50), position(0)), (0, 6), "8 and 9");
+    example_ten();
+    let strike = [(P, 0), (F, 1), (R, 1), (S, 0), (C, 1), (From, 1), (To, 2), (Distance, 1)];
+    let strike = Request::new(Kind::Strike, &strike);
+    assert_eq!(asked(&mut Desk::fresh(), strike), Answer::Refused(11), "11");
+    example_twelve();
+}
+
+fn example_ten() {
+    let mut desk = Desk::fresh();
+    let mut add = first_add(0);
+    add.set(C, 1);
+    assert_eq!(asked(&mut desk, add), Answer::Standing(5));
+    let got = [(); 4].map(|()| asked(&mut desk, Request::step(0)));
+    let due = [Answer::Claimed(1), Answer::Found(1), Answer::Stale(1, 3), Answer::Refused(9)];
+    assert_eq!(got, due, "10");
+    assert_eq!(desk, Desk::fresh());
+}
+
+fn example_twelve() {
+    let mut desk = Desk::fresh();
+    asked(&mut desk, first_add(0));
+    asked(&mut desk, first_add(1));
+    assert_eq!(asked(&mut desk, Request::step(0)), Answer::Claimed(1));
+    assert_eq!(asked(&mut desk, Request::step(1)), Answer::Waiting(0));
+    let rest = [(); 9].map(|()| asked(&mut desk, Request::step(0)));
+    assert_eq!(rest[8], Answer::Granted(10));
+    assert_eq!(asked(&mut desk, Request::step(1)), Answer::Stale(0, 2), "12");
+}
+
+#[test]
+fn ranks_are_a_permutation_and_positions_differ() {
+    let mut ranks = RANKS.to_vec();
+    ranks.sort();
+    assert_eq!(ranks, (0..32).collect::<Vec<i64>>());
+    let mut positions: Vec<i64> = (0..WORDS).map(position).collect();
+    positions.sort();
+    assert_eq!(positions, (0..WORDS).collect::<Vec<i64>>());
+}
+
+#[test]
+fn ten_goes_before_eleven_and_the_team_before_both() {
+    assert_eq!(fresh_answer(&[(To, 1), (Clino, 9_001)]), Answer::Refused(10));
+    assert_eq!(fresh_answer(&[(To, 1)]), Answer::Refused(11));
+    assert_eq!(fresh_answer(&[(To, 1), (Clino, 9_001), (Team, 16)]), Answer::Refused(6));
+    let mut desk = Desk::fresh();
+    asked(&mut desk, first_add(0));
+    let mut again = first_add(0);
+    set(&mut again, &[(To, 1), (Clino, 9_001)]);
+    assert_eq!(asked(&mut desk, again), Answer::Refused(8));
+    assert_eq!(asked(&mut desk, Request::look(4_096)), Answer::Refused(10));
+}
+
+/// Two passages with a leg each, two tickets that move them across.
+fn opposite_moves(p: i64, q: i64) -> Vec<u8> {
+    let mut frames = Vec::new();
+    for (team, passage) in [(0, p), (1, q)] {
+        let mut add = first_add(team);
+        add.set(P, passage);
+        frames.push(add);
+        frames.extend([Request::step(team); 10]);
+    }
+    for (team, from, to) in [(0, p, q), (1, q, p)] {
+        let mut moved = Request::new(Kind::Move, &[(Team, team), (P, from), (Q, to)]);
+        set(&mut moved, &[(R, 1 + team), (C, 1), (H, 2 - team), (D, 1), (From, 1), (To, 2)]);
+        frames.push(moved);
+    }
+    frames.iter().flat_map(Request::bytes).collect()
+}
+
+#[test]
+fn opposite_moves_do_not_block_each_other() {
+    let mut rng = Prng::new(7);
+    let mut blocked = 0;
+    for (p, q) in (0..32).flat_map(|p| (0..32).map(move |q| (p, q))).filter(|(p, q)| p != q) {
+        let mut input = opposite_moves(p, q);
+        for turn in 0..60 {
+            let team = if p < q { turn % 2 } else { rng.below(2) };
+            input.extend(Request::step(team).bytes());
+        }
+        let output = survey(&input);
+        let last = &split(&output)[24..];
+        let ends: Vec<Answer> = last.iter().filter_map(|bytes| Answer::of_bytes(bytes)).collect();
+        let granted = ends.iter().filter(|answer| matches!(answer, Answer::Granted(_))).count();
+        let stale = ends.iter().filter(|answer| matches!(answer, Answer::Stale(..))).count();
+        assert_eq!((granted, stale), (1, 1), "passages {p} and {q}");
+        check(&input, &output).unwrap();
+        let listing = answers(Fault::ListingOrder, &input);
+        blocked += i32::from(split(&listing).last().unwrap()[2] == 130);
+    }
+    assert!(blocked > 100, "claiming in listing order blocks: {blocked}");
+}
+
+#[test]
+fn a_stream_ends_as_the_paper_says() {
+    let refused = Answer::Refused(3).bytes();
+    assert_eq!(survey(&[]), []);
+    assert_eq!(survey(&[4]), refused);
+    assert_eq!(survey(&[0, 0]), refused);
+    assert_eq!(survey(&[1, 0, 9, 0, 0]), refused.repeat(2));
+    assert_eq!(survey(&[4, 0, 6, 0, 0]), refused);
+    assert_eq!(survey(&[63, 0, 2, 0, 0, 0]), refused);
+    let longest = [&[62, 0, 6, 0][..], &[0; 60]].concat();
+    assert_eq!(survey(&longest), Answer::Refused(5).bytes());
+}
+
+#[test]
+fn demand_three_holds_on_small_streams() {
+    for seed in 0..40 {
+        let input = [streams::fuzz(seed, 400), sweep()].concat();
+        check(&input, &survey(&input)).unwrap();
+    }
+}
+
+/// A wrong answer in place of a right one, if it is of the kind to be planted.
+fn planted(answer: Answer, which: usize) -> Option<Answer> {
+    match (answer, which) {
+        (Answer::Granted(tries), 0) => Some(Answer::Stale(0, tries)),
+        (Answer::Granted(tries), 1) => Some(Answer::Granted(tries + 1)),
+        (Answer::Stale(_, tries), 2) => Some(Answer::Granted(tries)),
+        (Answer::Stale(word, tries), 3) => Some(Answer::Stale(word, tries - 1)),
+        (Answer::Value(bits), 4) => Some(Answer::Value(bits + 1)),
+        (Answer::Value(_), 5) => Some(Answer::Held),
+        (Answer::Held, 6) => Some(Answer::Value(1 << 63)),
+        (Answer::Found(word), 7) => Some(Answer::Found(word + 1)),
+        (Answer::Claimed(5), 8) => Some(Answer::Found(0)),
+        (Answer::Waiting(_), 9) => Some(Answer::Refused(9)),
+        _ => None,
+    }
+}
+
+#[test]
+fn demand_three_notices_planted_faults() {
+    let input = streams::contention(3, 3_000);
+    let right: Vec<Vec<u8>> = split(&survey(&input)).iter().map(|bytes| bytes.to_vec()).collect();
+    for which in 0..10 {
+        let fits = |bytes: &[u8]| planted(Answer::of_bytes(bytes)?, which);
+        let places: Vec<usize> = (0..right.len()).filter(|i| fits(&right[*i]).is_some()).collect();
+        assert!(places.len() > 10, "fault {which} has {} places", places.len());
+        // Waits of a ticket that never ends are no matter for tries: take early ones.
+        for at in places.iter().take(10) {
+            let mut answers = right.clone();
+            answers[*at] = fits(&right[*at]).unwrap().bytes();
+            assert!(check(&input, &answers.concat()).is_err(), "fault {which} at {at}");
+        }
+    }
+}
+
+#[test]
+fn demand_three_tells_wrong_programs_apart() {
+    let input = streams::contention(4, 20_000);
+    for (name, fault) in FAULTS {
+        let noticed = check(&input, &answers(fault, &input)).is_err();
+        // "A step that says Waiting while the word is free: only demand 2's step
+        // rule stops it, as demand 3 holds for it." A Strike of f = r only waits.
+        let kept = [Fault::WaitingWhenFree, Fault::StrikesItself, Fault::Late].contains(&fault);
+        assert_eq!(noticed, !kept, "{name}");
+    }
+}
+
+#[test]
+fn reading_is_the_inverse_of_writing() {
+    let leg = reading(8_388_673, 76_022_100_792_200).unwrap();
+    assert_eq!((leg.p, leg.from, leg.to, leg.measure.clino), (0, 1, 2, -150));
+    let good = leg.measure.written() as u64;
+    for bad_place in [0, 1, place(32, 1, 2) as u64, place(0, 7, 7) as u64, 1 << 63, 1 << 40] {
+        assert_eq!(reading(bad_place, good), None, "place {bad_place}");
+    }
+    for bad in [0, good - 5_000, good + (1 << 34) * 9_000, u64::MAX, good - 5_000 + 100_001] {
+        assert_eq!(reading(8_388_673, bad), None, "measure {bad}");
+    }
+}
+
+#[test]
+fn the_lent_cases_are_as_stored() {
+    lent::check(include_str!("../lent.txt")).unwrap();
+}
+
+#[test]
+fn the_stored_stream_reaches_everything() {
+    let input = streams::stored();
+    let mut tally = Tally::default();
+    tally.add(&input, &survey(&input));
+    tally.complete(true).unwrap();
+}
+
+#[test]
+fn an_edit_that_fails_leaves_the_plain_book() {
+    let mut plain = Plain::fresh();
+    assert!(plain.play(&first_add(0)));
+    let before = plain.clone();
+    assert!(!plain.play(&first_add(1)), "h and c are outdated");
+    assert_eq!(plain, before);
+}

@@ -1,0 +1,366 @@
+//! "The plain book" and demand 3, from frames and answers alone: no book of
+//! words, no ticket of the model is used here.
+
+use crate::frames::{parse, split, Answer, Field::*, Kind, Request};
+use crate::layout::*;
+use crate::model::targets;
+use std::collections::BTreeMap;
+
+/// "number, from, to, distance, compass, clino"
+#[derive(Clone, Copy, Debug, PartialEq, Eq)]
+pub struct Leg {
+    pub number: i64,
+    pub from: i64,
+    pub to: i64,
+    pub measure: Measure,
+}
+
+impl Leg {
+    fn quoted(edit: &Request) -> Leg {
+        let [number, from, to] = [R, From, To].map(|field| edit.get(field));
+        Leg { number, from, to, measure: edit.measure() }
+    }
+
+    /// "all in range, from other than to"
+    fn sound(&self) -> bool {
+        let stations = 0..65_536;
+        (1..=LEGS).contains(&self.number)
+            && stations.contains(&self.from)
+            && stations.contains(&self.to)
+            && self.from != self.to
+            && self.measure.in_range()
+    }
+
+    fn same_stations(&self, other: &Leg) -> bool {
+        (self.number, self.from, self.to) == (other.number, other.from, other.to)
+    }
+}
+
+/// "For each passage a list of legs, newest first".
+#[derive(Clone, Debug, PartialEq, Eq)]
+pub struct Plain {
+    pub lists: Vec<Vec<Leg>>,
+}
+
+impl Plain {
+    /// "Fresh: all empty".
+    pub fn fresh() -> Plain {
+        Plain { lists: vec![Vec::new(); PASSAGES as usize] }
+    }
+
+    pub fn list(&self, p: i64) -> &[Leg] {
+        &self.lists[p as usize]
+    }
+
+    /// The number of the leg at an index of a list, 0 if there is none.
+    pub fn number_at(&self, p: i64, index: Option<usize>) -> i64 {
+        index.and_then(|i| self.list(p).get(i)).map_or(0, |leg| leg.number)
+    }
+
+    pub fn newest(&self, p: i64) -> i64 {
+        self.number_at(p, Some(0))
+    }
+
+    pub fn count(&self, p: i64) -> i64 {
+        self.list(p).len() as i64
+    }
+
+    /// Passage and index of a leg.
+    pub fn find(&self, number: i64) -> Option<(i64, usize)> {
+        (0..PASSAGES).find_map(|p| {
+            let index = self.list(p).iter().position(|leg| leg.number == number)?;
+            Some((p, index))
+        })
+    }
+
+    /// Where r is in p "with the quoted figures", c legs in p, "f just newer and
+    /// s just older (0: no such leg)".
+    fn between(&self, edit: &Request, fits: impl Fn(&Leg) -> bool) -> Option<usize> {
+        let [p, f, s, c] = [P, F, S, C].map(|field| edit.get(field));
+        let index = self.list(p).iter().position(fits)?;
+        let newer = self.number_at(p, index.checked_sub(1));
+        let older = self.number_at(p, Some(index + 1));
+        (self.count(p) == c && newer == f && older == s).then_some(index)
+    }
+
+    /// Plays an edit if it succeeds, and says whether it did. "If not, the edit
+    /// is stale and the lists stay."
+    pub fn play(&mut self, edit: &Request) -> bool {
+        self.try_edit(edit).is_some()
+    }
+
+    fn try_edit(&mut self, edit: &Request) -> Option<()> {
+        let quoted = Leg::quoted(edit);
+        let [p, q] = [P, Q].map(|field| edit.get(field));
+        match edit.kind {
+            Kind::Add => {
+                // "the list of p starts with h (is empty for 0), has c legs, and r
+                // is in no list; r goes in front"
+                let starts = self.newest(p) == edit.get(H) && self.count(p) == edit.get(C);
+                if !starts || self.find(quoted.number).is_some() {
+                    return None;
+                }
+                self.lists[p as usize].insert(0, quoted);
+            }
+            Kind::Correct => {
+                // "r is in p with the quoted figures; it takes the new distance,
+                // compass and clino"
+                let index = self.list(p).iter().position(|leg| *leg == quoted)?;
+                self.lists[p as usize][index].measure = edit.new_measure();
+            }
+            Kind::Strike => {
+                // "p has c legs, r with the quoted figures, f just newer and s just
+                // older (0: no such leg); r goes"
+                let index = self.between(edit, |leg| *leg == quoted)?;
+                self.lists[p as usize].remove(index);
+            }
+            Kind::Move => {
+                // "the same for r, stations only, and q starts with h and has d
+                // legs; r goes to the front of q with its measure"
+                let index = self.between(edit, |leg| leg.same_stations(&quoted))?;
+                if self.newest(q) != edit.get(H) || self.count(q) != edit.get(D) {
+                    return None;
+                }
+                let leg = self.lists[p as usize].remove(index);
+                self.lists[q as usize].insert(0, leg);
+            }
+            Kind::Step | Kind::Look => return None,
+        }
+        Some(())
+    }
+
+    /// "The plain book's words are those of the layout above."
+    pub fn word(&self, word: i64) -> i64 {
+        if word < 2 * PASSAGES {
+            let p = word / 2;
+            return if word % 2 == 0 { self.newest(p) } else { self.count(p) };
+        }
+        let Some((p, index)) = self.find((word - 64) / 3 + 1) else { return 0 };
+        let leg = self.list(p)[index];
+        match (word - 64) % 3 {
+            0 => self.number_at(p, Some(index + 1)),
+            1 => place(p, leg.from, leg.to),
+            _ => leg.measure.written(),
+        }
+    }
+
+    fn legs(&self) -> i64 {
+        self.lists.iter().map(|list| list.len() as i64).sum()
+    }
+}
+
+/// What a bystander knows of one team's ticket.
+#[derive(Clone, Debug)]
+struct Heard {
+    edit: Request,
+    /// Its words by rising position.
+    words: Vec<i64>,
+    /// Whether the edit succeeded on the plain book, once decided.
+    decided: Option<bool>,
+    /// The word that Found named.
+    found: Option<i64>,
+    steps: i64,
+    waits: i64,
+    /// "a ticket holds its k-th target by position from Claimed k until Put k,
+    /// Returned k or the ticket's last answer"
+    holds: Vec<i64>,
+}
+
+/// A bystander of one list of calls, who complains where demand 3 fails.
+#[derive(Clone, Debug)]
+pub struct Watch {
+    pub plain: Plain,
+    teams: BTreeMap<i64, Heard>,
+    adds: i64,
+    strikes: i64,
+}
+
+type Verdict = Result<(), String>;
+
+fn demand(holds: bool, complaint: impl FnOnce() -> String) -> Verdict {
+    if holds {
+        Ok(())
+    } else {
+        Err(complaint())
+    }
+}
+
+impl Watch {
+    pub fn new() -> Watch {
+        Watch { plain: Plain::fresh(), teams: BTreeMap::new(), adds: 0, strikes: 0 }
+    }
+
+    pub fn is_busy(&self, team: i64) -> bool {
+        self.teams.contains_key(&team)
+    }
+
+    fn holder(&self, word: i64) -> Option<i64> {
+        let holding = |heard: &Heard| heard.holds.contains(&word);
+        self.teams.iter().find(|(_, heard)| holding(heard)).map(|(team, _)| *team)
+    }
+
+    /// One frame and its answer.
+    pub fn hear(&mut self, frame: &[u8], answer: &[u8]) -> Verdict {
+        let answer = Answer::of_bytes(answer).ok_or("the answer isn't one of the paper")?;
+        // "every refusal is passed over"
+        if let Answer::Refused(_) = answer {
+            return Ok(());
+        }
+        let request = parse(frame).map_err(|n| format!("refusal {n} is answered {answer}"))?;
+        match request.kind {
+            Kind::Look => self.hear_look(request.get(Looked), answer),
+            Kind::Step => self.hear_step(request.team(), answer),
+            _ => self.hear_edit(request, answer),
+        }
+    }
+
+    /// "a look is decided at Value ... For a look it gives its own word and stays."
+    fn hear_look(&self, word: i64, answer: Answer) -> Verdict {
+        let holder = self.holder(word);
+        match answer {
+            Answer::Value(bits) => {
+                let own = self.plain.word(word);
+                demand(bits == own as u64, || {
+                    format!("word {word} shows {bits}, the plain book has {own}")
+                })?;
+                demand(holder.is_none(), || format!("word {word} is held, but shows a value"))
+            }
+            Answer::Held => {
+                demand(holder.is_some(), || format!("word {word} is Held, but nobody holds it"))
+            }
+            _ => Err(format!("a look is answered {answer}")),
+        }
+    }
+
+    /// "A ticket's edit is the edit frame that opened it, answered Standing."
+    fn hear_edit(&mut self, edit: Request, answer: Answer) -> Verdict {
+        let words: Vec<i64> = targets(&edit).iter().map(|target| target.word).collect();
+        let standing = answer == Answer::Standing(words.len() as i64);
+        demand(standing, || format!("an edit is answered {answer}"))?;
+        demand(!self.is_busy(edit.team()), || "a second ticket stands".to_string())?;
+        let heard = Heard {
+            edit,
+            words,
+            decided: None,
+            found: None,
+            steps: 0,
+            waits: 0,
+            holds: Vec::new(),
+        };
+        self.teams.insert(edit.team(), heard);
+        Ok(())
+    }
+
+    fn hear_step(&mut self, team: i64, answer: Answer) -> Verdict {
+        let mut heard = self.teams.remove(&team).ok_or("a step without a ticket is answered")?;
+        heard.steps += 1;
+        let last = self.hear_of(&mut heard, answer)?;
+        if !last {
+            self.teams.insert(team, heard);
+        }
+        Ok(())
+    }
+
+    /// Takes one answer to a step; true if it was the ticket's last.
+    fn hear_of(&mut self, heard: &mut Heard, answer: Answer) -> Result<bool, String> {
+        let n = heard.words.len() as i64;
+        match answer {
+            Answer::Claimed(k) => {
+                demand((1..=n).contains(&k), || format!("{answer} of {n}"))?;
+                let word = heard.words[k as usize - 1];
+                demand(self.holder(word).is_none(), || format!("word {word} is held twice"))?;
+                heard.holds.push(word);
+                // "decided as granted at the step answered Claimed with the number
+                // of its edit's targets"
+                if k == n {
+                    self.decide(heard, true)?;
+                }
+            }
+            Answer::Waiting(_) => heard.waits += 1,
+            // "and as stale at Found"
+            Answer::Found(word) => {
+                self.decide(heard, false)?;
+                heard.found = Some(word);
+            }
+            Answer::Put(k) | Answer::Returned(k) => {
+                demand((1..=n).contains(&k), || format!("{answer} of {n}"))?;
+                let word = heard.words[k as usize - 1];
+                heard.holds.retain(|held| *held != word);
+            }
+            Answer::Granted(tries) => {
+                self.hear_last(heard, true, tries)?;
+                // "A granted ticket has tries of 2n plus its waits"
+                let waits = heard.waits;
+                demand(tries == 2 * n + waits, || format!("{answer}, but 2 x {n} + {waits}"))?;
+                return Ok(true);
+            }
+            Answer::Stale(word, tries) => {
+                // "or at Stale with no Found before it in that ticket"
+                match heard.found {
+                    None => self.decide(heard, false)?,
+                    Some(found) => {
+                        demand(found == word, || format!("{answer}, but Found named {found}"))?
+                    }
+                }
+                self.hear_last(heard, false, tries)?;
+                return Ok(true);
+            }
+            _ => return Err(format!("a step is answered {answer}")),
+        }
+        Ok(false)
+    }
+
+    /// "The plain book is fed the fields of these frames ... It finds for itself
+    /// whether an edit succeeds."
+    fn decide(&mut self, heard: &mut Heard, granted: bool) -> Verdict {
+        demand(heard.decided.is_none(), || "a ticket is decided twice".to_string())?;
+        let succeeds = self.plain.play(&heard.edit);
+        let [claimed, found] = [granted, succeeds].map(|yes| if yes { "granted" } else { "stale" });
+        demand(granted == succeeds, || {
+            format!("decided as {claimed}, the plain book says {found}: {}", heard.edit)
+        })?;
+        heard.decided = Some(succeeds);
+        self.adds += i64::from(granted && heard.edit.kind == Kind::Add);
+        self.strikes += i64::from(granted && heard.edit.kind == Kind::Strike);
+        self.check_leg(heard.edit.get(R))?;
+        // "the counts of all passages in the plain book, each the length of its
+        // list, sum to granted adds less granted strikes"
+        demand(self.plain.legs() == self.adds - self.strikes, || "counts don't add up".to_string())
+    }
+
+    /// The decided leg keeps the plain book's rules.
+    fn check_leg(&self, number: i64) -> Verdict {
+        let alike: Vec<&Leg> =
+            self.plain.lists.iter().flatten().filter(|leg| leg.number == number).collect();
+        demand(alike.len() < 2, || format!("leg {number} is in the plain book twice"))?;
+        demand(alike.iter().all(|leg| leg.sound()), || format!("leg {number} is out of range"))
+    }
+
+    /// "a decided ticket's last answer, once it has come, is Granted if the edit
+    /// succeeds on the plain book and Stale if not"
+    fn hear_last(&self, heard: &Heard, granted: bool, tries: i64) -> Verdict {
+        demand(heard.decided == Some(granted), || {
+            format!("the last answer is granted: {granted}, decided: {:?}", heard.decided)
+        })?;
+        let steps = heard.steps;
+        demand(tries == steps, || format!("{tries} tries, but {steps} steps were answered"))
+    }
+}
+
+/// A final sweep: "every word nobody holds" is looked at.
+pub fn sweep() -> Vec<u8> {
+    (0..WORDS).flat_map(|word| Request::look(word).bytes()).collect()
+}
+
+/// Demand 3 on a whole stream and its answers; complains with the frame's index.
+pub fn check(input: &[u8], output: &[u8]) -> Result<Watch, String> {
+    let (frames, answers) = (split(input), split(output));
+    if frames.len() != answers.len() {
+        return Err(format!("{} frames, but {} answers", frames.len(), answers.len()));
+    }
+    let mut watch = Watch::new();
+    for (index, (frame, answer)) in frames.iter().zip(&answers).enumerate() {
+        watch.hear(frame, answer).map_err(|complaint| format!("frame {index}: {complaint}"))?;
+    }
+    Ok(watch)
+}

@@ -1,0 +1,396 @@
+//! "Frames": what a frame asks, what an answer says, and their bytes.
+
+use crate::layout::{Measure, LEGS, WORDS};
+use std::fmt;
+
+/// The named fields of all frames. `Distance`, `Compass`, `Clino` are M (of
+/// Correct: the old M), the `New` ones are Correct's new M.
+#[rustfmt::skip]
+#[derive(Clone, Copy, Debug, PartialEq, Eq)]
+pub enum Field {
+    Team, P, Q, F, R, S, H, C, D, From, To,
+    Distance, Compass, Clino, NewDistance, NewCompass, NewClino, Looked,
+}
+use Field::*;
+
+const FIELDS: usize = 18;
+
+impl Field {
+    /// "16 bits unless said (distance 32, clino signed)".
+    pub fn width(self) -> usize {
+        if matches!(self, Distance | NewDistance) {
+            4
+        } else {
+            2
+        }
+    }
+
+    fn signed(self) -> bool {
+        matches!(self, Clino | NewClino)
+    }
+
+    /// Whether a frame's field can carry this number at all.
+    pub fn carries(self, value: i64) -> bool {
+        let bits = 8 * self.width() as u32;
+        let least = if self.signed() { -(1 << (bits - 1)) } else { 0 };
+        (least..least + (1 << bits)).contains(&value)
+    }
+
+    fn read(self, bytes: &[u8]) -> i64 {
+        let unsigned = little(bytes);
+        if self.signed() {
+            i64::from(unsigned as u16 as i16)
+        } else {
+            unsigned
+        }
+    }
+}
+
+/// "all fields are little-endian".
+fn little(bytes: &[u8]) -> i64 {
+    bytes.iter().rev().fold(0, |sum, byte| 256 * sum + i64::from(*byte))
+}
+
+#[derive(Clone, Copy, Debug, PartialEq, Eq)]
+pub enum Kind {
+    Add = 1,
+    Correct = 2,
+    Strike = 3,
+    Move = 4,
+    Step = 5,
+    Look = 6,
+}
+
+impl Kind {
+    pub const ALL: [Kind; 6] =
+        [Kind::Add, Kind::Correct, Kind::Strike, Kind::Move, Kind::Step, Kind::Look];
+
+    fn of(number: i64) -> Option<Kind> {
+        Kind::ALL.into_iter().find(|kind| *kind as i64 == number)
+    }
+
+    pub fn form(self) -> &'static [Field] {
+        match self {
+            // "1 Add (length 24): team p r h c from to M."
+            Kind::Add => &[Team, P, R, H, C, From, To, Distance, Compass, Clino],
+            // "2 Correct (28): team p r from to, old M, new M."
+            Kind::Correct => {
+                &[Team, P, R, From, To, Distance, Compass, Clino, NewDistance, NewCompass, NewClino]
+            }
+            // "3 Strike (26): team p f r s c from to M."
+            Kind::Strike => &[Team, P, F, R, S, C, From, To, Distance, Compass, Clino],
+            // "4 Move (24): team p q f r s c h d from to."
+            Kind::Move => &[Team, P, Q, F, R, S, C, H, D, From, To],
+            // "5 Step (4): team. 6 Look (4): word."
+            Kind::Step => &[Team],
+            Kind::Look => &[Looked],
+        }
+    }
+
+    /// The length of the kind: its fields and the kind itself.
+    pub fn length(self) -> usize {
+        2 + self.form().iter().map(|field| field.width()).sum::<usize>()
+    }
+
+    pub fn is_edit(self) -> bool {
+        !matches!(self, Kind::Step | Kind::Look)
+    }
+}
+
+/// Least and greatest of a field, as refusals 6 and 10 have them.
+pub fn limits(kind: Kind, field: Field) -> (i64, i64) {
+    match field {
+        Team => (0, 15),
+        P | Q => (0, 31),
+        R => (1, LEGS),
+        // "f, s, h 0 to 1,344"
+        F | S | H => (0, LEGS),
+        // "c in Add and d 0 to 1,343; other c 1 to 1,344"
+        C if kind == Kind::Add => (0, LEGS - 1),
+        C => (1, LEGS),
+        D => (0, LEGS - 1),
+        From | To => (0, 65_535),
+        Distance | NewDistance => (1, 100_000),
+        Compass | NewCompass => (0, 35_999),
+        Clino | NewClino => (-9_000, 9_000),
+        // "looked-at word 0 to 4,095"
+        Looked => (0, WORDS - 1),
+    }
+}
+
+/// A frame of a known kind and of the right length, its fields read.
+#[derive(Clone, Copy, Debug, PartialEq, Eq)]
+pub struct Request {
+    pub kind: Kind,
+    values: [i64; FIELDS],
+}
+
+impl Request {
+    pub fn new(kind: Kind, values: &[(Field, i64)]) -> Request {
+        let mut request = Request { kind, values: [0; FIELDS] };
+        for (field, value) in values {
+            request.set(*field, *value);
+        }
+        request
+    }
+
+    pub fn step(team: i64) -> Request {
+        Request::new(Kind::Step, &[(Team, team)])
+    }
+
+    pub fn look(word: i64) -> Request {
+        Request::new(Kind::Look, &[(Looked, word)])
+    }
+
+    pub fn get(&self, field: Field) -> i64 {
+        self.values[field as usize]
+    }
+
+    pub fn set(&mut self, field: Field, value: i64) {
+        self.values[field as usize] = value;
+    }
+
+    pub fn team(&self) -> i64 {
+        self.get(Team)
+    }
+
+    pub fn measure(&self) -> Measure {
+        let [distance, compass, clino] = [Distance, Compass, Clino].map(|field| self.get(field));
+        Measure { distance, compass, clino }
+    }
+
+    pub fn new_measure(&self) -> Measure {
+        let [distance, compass, clino] =
+            [NewDistance, NewCompass, NewClino].map(|field| self.get(field));
+        Measure { distance, compass, clino }
+    }
+
+    /// "10. A field is out of range".
+    pub fn out_of_range(&self) -> bool {
+        self.kind.form().iter().any(|field| {
+            let (least, greatest) = limits(self.kind, *field);
+            !(least..=greatest).contains(&self.get(*field))
+        })
+    }
+
+    /// "11. from equals to, q equals p, or a leg number other than 0 is named twice."
+    pub fn muddled(&self) -> bool {
+        let form = self.kind.form();
+        let same = |a: Field, b: Field| {
+            form.contains(&a) && form.contains(&b) && self.get(a) == self.get(b)
+        };
+        let named: Vec<i64> = form
+            .iter()
+            .filter(|field| matches!(field, F | R | S | H))
+            .map(|field| self.get(*field))
+            .filter(|leg| *leg != 0)
+            .collect();
+        let twice = (1..named.len()).any(|i| named[..i].contains(&named[i]));
+        same(From, To) || same(Q, P) || twice
+    }
+
+    /// The frame's bytes; fields that the frame can't carry are cut off.
+    pub fn bytes(&self) -> Vec<u8> {
+        let body = self.kind.form().iter().flat_map(|field| {
+            self.get(*field).to_le_bytes().into_iter().take(field.width()).collect::<Vec<u8>>()
+        });
+        framed(self.kind as i64, &body.collect::<Vec<u8>>())
+    }
+}
+
+/// "Each starts with a 16-bit length of what follows it, then a 16-bit kind".
+pub fn framed(kind: i64, body: &[u8]) -> Vec<u8> {
+    let mut bytes = (2 + body.len() as u16).to_le_bytes().to_vec();
+    bytes.extend((kind as u16).to_le_bytes());
+    bytes.extend(body);
+    bytes
+}
+
+/// A frame's kind and fields, or the refusal (3, 4 or 5) that comes first.
+pub fn parse(frame: &[u8]) -> Result<Request, i64> {
+    // "3. The frame has fewer than 4 or more than 64 bytes, or its length field
+    // isn't the count of bytes after it."
+    if frame.len() < 4 || frame.len() > 64 || little(&frame[..2]) != frame.len() as i64 - 2 {
+        return Err(3);
+    }
+    // "4. The kind isn't 1 to 6."
+    let kind = Kind::of(little(&frame[2..4])).ok_or(4)?;
+    // "5. The length isn't that of the kind."
+    if frame.len() - 2 != kind.length() {
+        return Err(5);
+    }
+    let mut request = Request::new(kind, &[]);
+    let mut rest = &frame[4..];
+    for field in kind.form() {
+        let (bytes, after) = rest.split_at(field.width());
+        request.set(*field, field.read(bytes));
+        rest = after;
+    }
+    Ok(request)
+}
+
+/// What comes next in a stream of frames or answers.
+#[derive(Debug, PartialEq, Eq)]
+pub enum Next<'a> {
+    Nothing,
+    /// Fewer bytes than the length field asks, or half a length field.
+    Torn,
+    /// "a length field above 62"
+    TooLong,
+    Whole(&'a [u8]),
+}
+
+pub fn next(rest: &[u8]) -> Next<'_> {
+    match rest {
+        [] => Next::Nothing,
+        [_] => Next::Torn,
+        _ if little(&rest[..2]) > 62 => Next::TooLong,
+        _ => rest.get(..2 + little(&rest[..2]) as usize).map_or(Next::Torn, Next::Whole),
+    }
+}
+
+/// All frames of a stream; what is torn or too long comes last, as one piece.
+pub fn split(stream: &[u8]) -> Vec<&[u8]> {
+    let mut pieces = Vec::new();
+    let mut rest = stream;
+    loop {
+        match next(rest) {
+            Next::Nothing => return pieces,
+            Next::Torn | Next::TooLong => {
+                pieces.push(rest);
+                return pieces;
+            }
+            Next::Whole(frame) => {
+                pieces.push(frame);
+                rest = &rest[frame.len()..];
+            }
+        }
+    }
+}
+
+#[derive(Clone, Copy, Debug, PartialEq, Eq)]
+pub enum Answer {
+    Standing(i64),
+    Claimed(i64),
+    Waiting(i64),
+    Found(i64),
+    Put(i64),
+    Returned(i64),
+    Granted(i64),
+    Stale(i64, i64),
+    Value(u64),
+    Held,
+    Refused(i64),
+}
+
+impl Answer {
+    /// "Answers: 128 Standing, n. 129 Claimed, how many. ..."
+    pub fn number(self) -> i64 {
+        match self {
+            Answer::Standing(_) => 128,
+            Answer::Claimed(_) => 129,
+            Answer::Waiting(_) => 130,
+            Answer::Found(_) => 131,
+            Answer::Put(_) => 132,
+            Answer::Returned(_) => 133,
+            Answer::Granted(_) => 134,
+            Answer::Stale(..) => 135,
+            Answer::Value(_) => 136,
+            Answer::Held => 137,
+            Answer::Refused(_) => 138,
+        }
+    }
+
+    pub fn bytes(self) -> Vec<u8> {
+        let short = |number: i64| (number as u16).to_le_bytes().to_vec();
+        let tries = |number: i64| (number as u32).to_le_bytes().to_vec();
+        let body = match self {
+            Answer::Granted(count) => tries(count),
+            Answer::Stale(word, count) => [short(word), tries(count)].concat(),
+            Answer::Value(bits) => bits.to_le_bytes().to_vec(),
+            Answer::Held => Vec::new(),
+            Answer::Standing(x) | Answer::Claimed(x) | Answer::Waiting(x) => short(x),
+            Answer::Found(x) | Answer::Put(x) | Answer::Returned(x) => short(x),
+            Answer::Refused(x) => short(x),
+        };
+        framed(self.number(), &body)
+    }
+
+    /// The answer that these bytes are, if they are one.
+    pub fn of_bytes(bytes: &[u8]) -> Option<Answer> {
+        let number = little(bytes.get(2..4)?);
+        let body = &bytes[4..];
+        let first = little(&body[..body.len().min(2)]);
+        let answer = match number {
+            128 => Answer::Standing(first),
+            129 => Answer::Claimed(first),
+            130 => Answer::Waiting(first),
+            131 => Answer::Found(first),
+            132 => Answer::Put(first),
+            133 => Answer::Returned(first),
+            134 => Answer::Granted(little(body.get(..4)?)),
+            135 => Answer::Stale(first, little(body.get(2..6)?)),
+            136 => Answer::Value(u64::from_le_bytes(body.try_into().ok()?)),
+            137 => Answer::Held,
+            138 => Answer::Refused(first),
+            _ => return None,
+        };
+        (answer.bytes() == bytes).then_some(answer)
+    }
+}
+
+impl fmt::Display for Request {
+    fn fmt(&self, f: &mut fmt::Formatter) -> fmt::Result {
+        write!(f, "{:?}:", self.kind)?;
+        for field in self.kind.form() {
+            let name = format!("{field:?}")
+                .to_lowercase()
+                .replace("new", "new ")
+                .replace("looked", "word");
+            write!(f, " {name} {},", self.get(*field))?;
+        }
+        write!(f, " in a frame of {} bytes", 2 + self.kind.length())
+    }
+}
+
+impl fmt::Display for Answer {
+    fn fmt(&self, f: &mut fmt::Formatter) -> fmt::Result {
+        match self {
+            Answer::Standing(n) => write!(f, "Standing, {n} targets"),
+            Answer::Claimed(k) => write!(f, "Claimed {k}"),
+            Answer::Waiting(word) => write!(f, "Waiting at word {word}"),
+            Answer::Found(word) => write!(f, "Found, word {word} differs"),
+            Answer::Put(k) => write!(f, "Put {k}"),
+            Answer::Returned(k) => write!(f, "Returned {k}"),
+            Answer::Granted(tries) => write!(f, "Granted, tries {tries}"),
+            Answer::Stale(word, tries) => write!(f, "Stale, word {word}, tries {tries}"),
+            Answer::Value(bits) => write!(f, "Value {bits}"),
+            Answer::Held => write!(f, "Held"),
+            Answer::Refused(number) => write!(f, "Refused {number}"),
+        }
+    }
+}
+
+pub fn hex(bytes: &[u8]) -> String {
+    bytes.iter().map(|byte| format!("{byte:02X}")).collect::<Vec<_>>().join(" ")
+}
+
+/// A frame in words.
+pub fn frame_in_words(frame: &[u8]) -> String {
+    let shown = hex(&frame[..frame.len().min(70)]);
+    match (next(frame), parse(frame)) {
+        (Next::TooLong, _) => format!("a length field above 62 [{shown} ...]"),
+        (Next::Whole(_), Ok(request)) => format!("{request} [{shown}]"),
+        (Next::Whole(_), Err(number)) => format!("a frame that refusal {number} is for [{shown}]"),
+        _ => format!("a torn frame [{shown}]"),
+    }
+}
+
+/// An answer's bytes in words.
+pub fn answer_in_words(bytes: &[u8]) -> String {
+    let shown = hex(&bytes[..bytes.len().min(70)]);
+    match Answer::of_bytes(bytes) {
+        Some(answer) => format!("{answer} [{shown}]"),
+        None => format!("no answer of the paper [{shown}]"),
+    }
+}

@@ -1,0 +1,130 @@
+//! The test side of Mussletread: a second model of document 01 and what is
+//! compared with it. See README.md.
+
+#[cfg(test)]
+mod checks;
+mod compare;
+mod demand3;
+mod frames;
+mod layout;
+mod lent;
+mod model;
+mod serve;
+mod streams;
+mod tally;
+mod wrong;
+
+use compare::{differ, Program};
+use std::fs;
+use std::path::Path;
+use std::process::ExitCode;
+use std::time::{Duration, Instant};
+
+const USAGE: &str = "usage:
+  tests compare PROGRAM [--seed N] [--frames N] [--patience SECONDS] [-- ARGUMENT ...]
+  tests whole-case PROGRAM
+  tests stored DIR [--check]
+  tests lent FILE [--check]
+  tests serve [--wrong FAULT]";
+
+fn main() -> ExitCode {
+    let words: Vec<String> = std::env::args().skip(1).collect();
+    let words: Vec<&str> = words.iter().map(String::as_str).collect();
+    match run(&words) {
+        Ok(line) => {
+            if !line.is_empty() {
+                println!("{line}");
+            }
+            ExitCode::SUCCESS
+        }
+        Err(complaint) => {
+            eprintln!("{complaint}");
+            ExitCode::FAILURE
+        }
+    }
+}
+
+fn run(words: &[&str]) -> Result<String, String> {
+    match words {
+        ["compare", path, options @ ..] => compare_with(path, options),
+        ["whole-case", path] => whole_case(path),
+        ["stored", dir] => store(Path::new(dir)),
+        ["stored", dir, "--check"] => check_stored(Path::new(dir)),
+        ["lent", file] => lent::told(&read_text(file)?),
+        ["lent", file, "--check"] => lent::check(&read_text(file)?),
+        ["serve"] => serve_as(None),
+        ["serve", "--wrong", name] => serve_as(Some(wrong::named(name).ok_or(USAGE)?)),
+        _ => Err(USAGE.to_string()),
+    }
+}
+
+fn program(path: &str, arguments: &[&str], seconds: u64) -> Program {
+    let arguments = arguments.iter().map(|word| word.to_string()).collect();
+    Program { path: path.to_string(), arguments, patience: Duration::from_secs(seconds) }
+}
+
+fn compare_with(path: &str, options: &[&str]) -> Result<String, String> {
+    let (mut seed, mut frames, mut patience, mut rest) = (1, 1_000_000, 20, options);
+    let arguments = loop {
+        match rest {
+            [] => break &[][..],
+            ["--", arguments @ ..] => break arguments,
+            ["--seed", number, after @ ..] => (seed, rest) = (parsed(number)?, after),
+            ["--frames", number, after @ ..] => (frames, rest) = (parsed(number)?, after),
+            ["--patience", number, after @ ..] => (patience, rest) = (parsed(number)?, after),
+            _ => return Err(USAGE.to_string()),
+        }
+    };
+    let began = Instant::now();
+    let tally = compare::compare(&program(path, arguments, patience), seed, frames as i64)?;
+    println!("{}", tally.outcomes());
+    Ok(format!("same as the model, {:.1} s, {}", began.elapsed().as_secs_f64(), tally.summary()))
+}
+
+fn parsed(number: &str) -> Result<u64, String> {
+    number.parse().map_err(|_| format!("{number} isn't a number\n{USAGE}"))
+}
+
+/// "Whole case, hexadecimal": the paper's own bytes, not the model's.
+fn whole_case(path: &str) -> Result<String, String> {
+    let (input, output) = streams::whole_case();
+    let got = program(path, &[], 20).run(&input, &[])?;
+    differ(&input, &output, &got)?;
+    Ok("the whole case of document 01 comes out as the paper has it".to_string())
+}
+
+fn store(dir: &Path) -> Result<String, String> {
+    let input = streams::stored();
+    let output = model::survey(&input);
+    let failed = |error: std::io::Error| error.to_string();
+    fs::create_dir_all(dir).map_err(failed)?;
+    fs::write(dir.join("stdin"), &input).map_err(failed)?;
+    fs::write(dir.join("stdout"), &output).map_err(failed)?;
+    check_stored(dir)
+}
+
+/// The stored output is the model's, demand 3 holds of it, it begins with the
+/// whole case, and nothing that a stream can reach is missing.
+fn check_stored(dir: &Path) -> Result<String, String> {
+    let read = |name: &str| fs::read(dir.join(name)).map_err(|error| format!("{name}: {error}"));
+    let (input, output) = (read("stdin")?, read("stdout")?);
+    differ(&input, &model::survey(&input), &output)?;
+    demand3::check(&input, &output)?;
+    let (case_in, case_out) = streams::whole_case();
+    if !input.starts_with(&case_in) || !output.starts_with(&case_out) {
+        return Err("the stored stream doesn't begin with the whole case".to_string());
+    }
+    let mut tally = tally::Tally::default();
+    tally.add(&input, &output);
+    tally.complete(true)?;
+    Ok(format!("stored: {}", tally.summary()))
+}
+
+fn read_text(file: &str) -> Result<String, String> {
+    fs::read_to_string(file).map_err(|error| format!("{file}: {error}"))
+}
+
+fn serve_as(fault: Option<wrong::Fault>) -> Result<String, String> {
+    let served = serve::serve(std::io::stdin(), std::io::stdout(), fault);
+    served.map(|()| String::new()).map_err(|error| error.to_string())
+}

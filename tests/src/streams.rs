@@ -1,0 +1,578 @@
+//! Seeded streams of frames: contention, a full book, fuzz, damage, endings.
+
+use crate::demand3::{sweep, Plain, Watch};
+use crate::frames::{framed, limits, split, Answer, Field, Field::*, Kind, Request};
+use crate::layout::*;
+use crate::model::Desk;
+
+/// splitmix64.
+pub struct Prng(u64);
+
+impl Prng {
+    pub fn new(seed: u64) -> Prng {
+        Prng(seed.wrapping_mul(0x9E37_79B9_7F4A_7C15) ^ 0x6D75_7373_6C65)
+    }
+
+    pub fn next(&mut self) -> u64 {
+        self.0 = self.0.wrapping_add(0x9E37_79B9_7F4A_7C15);
+        let mut z = self.0;
+        z = (z ^ (z >> 30)).wrapping_mul(0xBF58_476D_1CE4_E5B9);
+        z = (z ^ (z >> 27)).wrapping_mul(0x94D0_49BB_1331_11EB);
+        z ^ (z >> 31)
+    }
+
+    pub fn below(&mut self, bound: i64) -> i64 {
+        (self.next() % bound as u64) as i64
+    }
+
+    pub fn between(&mut self, least: i64, greatest: i64) -> i64 {
+        least + self.below(greatest - least + 1)
+    }
+
+    pub fn percent(&mut self, share: i64) -> bool {
+        self.below(100) < share
+    }
+
+    pub fn pick<T: Copy>(&mut self, from: &[T]) -> T {
+        from[self.below(from.len() as i64) as usize]
+    }
+
+    fn bytes(&mut self, count: i64) -> Vec<u8> {
+        (0..count).map(|_| self.next() as u8).collect()
+    }
+
+    /// Some different numbers of a range.
+    fn some(&mut self, count: i64, least: i64, greatest: i64) -> Vec<i64> {
+        let mut all: Vec<i64> = (least..=greatest).collect();
+        (0..count).map(|_| all.swap_remove(self.below(all.len() as i64) as usize)).collect()
+    }
+}
+
+/// Where a stream's teams meet and how they behave (shares in percent).
+struct Site {
+    passages: Vec<i64>,
+    legs: Vec<i64>,
+    teams: i64,
+    looks: i64,
+    edits: i64,
+    /// Edits with one quoted field made wrong.
+    wrong: i64,
+    /// Edits quoted from an old view of the lists.
+    old: i64,
+    /// Steps that one team takes in a row, at most.
+    burst: i64,
+}
+
+impl Site {
+    fn new(rng: &mut Prng) -> Site {
+        let (junctions, legs) = (rng.pick(&[2, 2, 3, 4, 6]), rng.pick(&[5, 12, 30, 150]));
+        Site {
+            passages: rng.some(junctions, 0, PASSAGES - 1),
+            legs: rng.some(legs, 1, LEGS),
+            teams: rng.pick(&[2, 5, 16, 16, 16]),
+            looks: rng.pick(&[2, 10, 25]),
+            edits: rng.pick(&[5, 15, 30]),
+            wrong: rng.pick(&[3, 10, 30]),
+            old: rng.pick(&[0, 5, 20]),
+            burst: rng.pick(&[1, 1, 3, 12]),
+        }
+    }
+}
+
+fn stations(rng: &mut Prng) -> (i64, i64) {
+    let from = rng.pick(&[0, 1, 2, 300, 65_535]);
+    let to = rng.between(3, 299);
+    if rng.percent(50) {
+        (from, to)
+    } else {
+        (to, from)
+    }
+}
+
+/// A measure; its least and greatest figures come often.
+fn measure(rng: &mut Prng) -> [i64; 3] {
+    [Distance, Compass, Clino].map(|field| {
+        let (least, greatest) = limits(Kind::Add, field);
+        let between = rng.between(least, greatest);
+        rng.pick(&[least, greatest, between, between, between])
+    })
+}
+
+/// An edit of a team that quotes the lists of a view as they are.
+fn draft(rng: &mut Prng, site: &Site, view: &Plain, team: i64) -> Request {
+    let p = rng.pick(&site.passages);
+    let few = view.count(p) < rng.between(1, 5);
+    if view.list(p).is_empty() || rng.percent(if few { 70 } else { 25 }) {
+        return draft_add(rng, site, view, team, p);
+    }
+    // The newest, the oldest, or any leg.
+    let last = view.list(p).len() - 1;
+    let any = rng.below(last as i64 + 1) as usize;
+    let index = rng.pick(&[0, last, any]);
+    match rng.below(4) {
+        0 => draft_correct(rng, view, team, p, index),
+        1 => draft_strike(view, team, p, index),
+        _ => {
+            let others: Vec<i64> = site.passages.iter().copied().filter(|q| *q != p).collect();
+            draft_move(view, team, p, rng.pick(&others), index)
+        }
+    }
+}
+
+fn draft_add(rng: &mut Prng, site: &Site, view: &Plain, team: i64, p: i64) -> Request {
+    let free = |r: &i64| view.find(*r).is_none();
+    let tried: Vec<i64> = (0..4).map(|_| rng.pick(&site.legs)).collect();
+    let r = tried.iter().copied().find(free).unwrap_or(tried[0]);
+    add(rng, view, team, p, r)
+}
+
+fn add(rng: &mut Prng, view: &Plain, team: i64, p: i64, r: i64) -> Request {
+    let ((from, to), [distance, compass, clino]) = (stations(rng), measure(rng));
+    let seen = [(Team, team), (P, p), (R, r), (H, view.newest(p)), (C, view.count(p))];
+    let mut add = Request::new(Kind::Add, &seen);
+    set(&mut add, &[(From, from), (To, to)]);
+    set(&mut add, &[(Distance, distance), (Compass, compass), (Clino, clino)]);
+    add
+}
+
+fn set(request: &mut Request, values: &[(Field, i64)]) {
+    values.iter().for_each(|(field, value)| request.set(*field, *value));
+}
+
+/// An edit of the leg at an index of a passage's list, with its neighbours.
+fn quoting(view: &Plain, kind: Kind, team: i64, p: i64, index: usize) -> Request {
+    let leg = view.list(p)[index];
+    let newer = view.number_at(p, index.checked_sub(1));
+    let older = view.number_at(p, Some(index + 1));
+    let mut edit = Request::new(kind, &[(Team, team), (P, p), (R, leg.number)]);
+    set(&mut edit, &[(F, newer), (S, older), (C, view.count(p)), (From, leg.from), (To, leg.to)]);
+    let of = leg.measure;
+    set(&mut edit, &[(Distance, of.distance), (Compass, of.compass), (Clino, of.clino)]);
+    edit
+}
+
+fn draft_correct(rng: &mut Prng, view: &Plain, team: i64, p: i64, index: usize) -> Request {
+    let mut edit = quoting(view, Kind::Correct, team, p, index);
+    let [distance, compass, clino] = measure(rng);
+    set(&mut edit, &[(NewDistance, distance), (NewCompass, compass), (NewClino, clino)]);
+    edit
+}
+
+fn draft_strike(view: &Plain, team: i64, p: i64, index: usize) -> Request {
+    quoting(view, Kind::Strike, team, p, index)
+}
+
+fn draft_move(view: &Plain, team: i64, p: i64, q: i64, index: usize) -> Request {
+    let mut edit = quoting(view, Kind::Move, team, p, index);
+    set(&mut edit, &[(Q, q), (H, view.newest(q)), (D, view.count(q))]);
+    edit
+}
+
+/// Makes one of the quoted fields wrong.
+fn misquote(rng: &mut Prng, site: &Site, edit: &mut Request) {
+    let field = rng.pick(edit.kind.form());
+    let now = edit.get(field);
+    let value = match field {
+        Team => now,
+        P | Q => rng.pick(&site.passages),
+        F | R | S | H => rng.pick(&[0, next_leg(site, now)]),
+        _ => now + rng.pick(&[-1, 1]),
+    };
+    let (least, greatest) = limits(edit.kind, field);
+    edit.set(field, value.clamp(least, greatest));
+}
+
+/// The leg of the site that follows a leg, in no order that matters.
+fn next_leg(site: &Site, now: i64) -> i64 {
+    let at = site.legs.iter().position(|leg| *leg == now).map_or(0, |at| at + 1);
+    site.legs[at % site.legs.len()]
+}
+
+/// A request with every field in range and no two legs alike.
+fn a_fair_request(kind: Kind) -> Request {
+    let mut request = Request::new(kind, &[(P, 1), (Q, 2), (F, 3), (R, 4), (S, 5), (H, 6)]);
+    set(&mut request, &[(C, 1), (D, 1), (From, 1), (To, 2)]);
+    set(&mut request, &[(Distance, 1), (NewDistance, 1)]);
+    request
+}
+
+/// Changes of a fair request that may make it one to refuse.
+fn oddities(kind: Kind) -> Vec<Vec<(Field, i64)>> {
+    let form = kind.form();
+    let mut found = Vec::new();
+    for field in form {
+        let (least, greatest) = limits(kind, *field);
+        let values = [least - 1, least, greatest, greatest + 1];
+        let carried = values.into_iter().filter(|value| field.carries(*value));
+        found.extend(carried.map(|value| vec![(*field, value)]));
+    }
+    for (one, other) in PAIRS.into_iter().filter(|(a, b)| form.contains(a) && form.contains(b)) {
+        found.extend([0, 7].map(|value| vec![(one, value), (other, value)]));
+    }
+    found
+}
+
+const PAIRS: [(Field, Field); 8] =
+    [(From, To), (Q, P), (F, R), (F, S), (R, S), (H, R), (H, F), (H, S)];
+
+/// Writes a stream, and listens to what the model answers to it.
+pub struct Author {
+    pub rng: Prng,
+    pub bytes: Vec<u8>,
+    pub frames: i64,
+    desk: Desk,
+    watch: Watch,
+    old_view: Plain,
+    site: Site,
+}
+
+impl Author {
+    pub fn new(seed: u64) -> Author {
+        let mut rng = Prng::new(seed);
+        let site = Site::new(&mut rng);
+        let (desk, watch, old_view) = (Desk::fresh(), Watch::new(), Plain::fresh());
+        Author { rng, bytes: Vec::new(), frames: 0, desk, watch, old_view, site }
+    }
+
+    pub fn say(&mut self, frame: &[u8]) -> Answer {
+        let answer = self.desk.answer(frame);
+        self.watch.hear(frame, &answer.bytes()).expect("the model keeps demand 3");
+        self.bytes.extend(frame);
+        self.frames += 1;
+        answer
+    }
+
+    pub fn contend(&mut self, frames: i64) {
+        let end = self.frames + frames;
+        while self.frames < end {
+            self.turn();
+        }
+    }
+
+    /// Something that teams do: a look, an edit, steps.
+    fn turn(&mut self) {
+        if self.rng.percent(2) {
+            self.old_view = self.watch.plain.clone();
+        }
+        let team = self.rng.below(self.site.teams);
+        let (share, busy) = (self.rng.below(100), self.watch.is_busy(team));
+        if share < self.site.looks {
+            self.look();
+        } else if !busy && share < self.site.looks + self.site.edits {
+            self.edit(team);
+        } else if !busy && self.rng.percent(3) {
+            self.oppose();
+        } else if busy || self.rng.percent(1) {
+            self.steps(team);
+        }
+    }
+
+    fn look(&mut self) {
+        let (p, r) = (self.rng.pick(&self.site.passages), self.rng.pick(&self.site.legs));
+        let of_leg = self.rng.pick(&[link_word(r), place_word(r), measure_word(r)]);
+        let word = self.rng.pick(&[newest_word(p), count_word(p), of_leg]);
+        self.say(&Request::look(word).bytes());
+    }
+
+    fn drafted(&mut self, team: i64) -> Request {
+        let old = self.rng.percent(self.site.old);
+        let view = if old { &self.old_view } else { &self.watch.plain };
+        draft(&mut self.rng, &self.site, view, team)
+    }
+
+    fn edit(&mut self, team: i64) {
+        let mut edit = self.drafted(team);
+        if self.rng.percent(self.site.wrong) {
+            misquote(&mut self.rng, &self.site, &mut edit);
+        }
+        self.say(&edit.bytes());
+    }
+
+    /// Two teams move legs in opposite directions, their steps mixed.
+    fn oppose(&mut self) {
+        let plain = &self.watch.plain;
+        let full = |p: &i64| !plain.list(*p).is_empty();
+        let places: Vec<i64> = self.site.passages.iter().copied().filter(full).collect();
+        let idle: Vec<i64> =
+            (0..self.site.teams).filter(|team| !self.watch.is_busy(*team)).collect();
+        let ([p, q, ..], [a, b, ..]) = (&places[..], &idle[..]) else { return };
+        let first = draft_move(plain, *a, *p, *q, 0).bytes();
+        let second = draft_move(plain, *b, *q, *p, 0).bytes();
+        let teams = [*a, *b];
+        self.say(&first);
+        self.say(&second);
+        for _ in 0..self.rng.below(12) {
+            let team = self.rng.pick(&teams);
+            self.say(&Request::step(team).bytes());
+        }
+    }
+
+    fn steps(&mut self, team: i64) {
+        for _ in 0..self.rng.between(1, self.site.burst) {
+            let answer = self.say(&Request::step(team).bytes());
+            if matches!(answer, Answer::Waiting(_)) || !self.watch.is_busy(team) {
+                return;
+            }
+        }
+    }
+
+    /// Steps till the team has no ticket; nobody else must be at work.
+    fn finish(&mut self, team: i64) {
+        while self.watch.is_busy(team) {
+            self.say(&Request::step(team).bytes());
+        }
+    }
+
+    pub fn sweep(&mut self) {
+        self.bytes.extend(sweep());
+        self.frames += WORDS;
+    }
+
+    /// All legs into one passage, then edits at the greatest counts.
+    fn fill(&mut self) {
+        let p = self.site.passages[0];
+        for r in self.rng.some(LEGS, 1, LEGS) {
+            let edit = add(&mut self.rng, &self.watch.plain, r % TEAMS, p, r);
+            self.settle(&edit);
+        }
+        let one_more = add(&mut self.rng, &self.watch.plain, 0, p, 1);
+        self.say(&one_more.bytes());
+        let q = self.site.passages[1];
+        for index in [1_343, 700, 0] {
+            let moved = draft_move(&self.watch.plain, 3, p, q, index);
+            self.settle(&moved);
+        }
+        for index in [1_340, 700, 0] {
+            let struck = draft_strike(&self.watch.plain, 4, p, index);
+            self.settle(&struck);
+        }
+        self.site.legs = (1..=LEGS).collect();
+    }
+
+    /// Says an edit, and ends its ticket if there is one now.
+    fn settle(&mut self, edit: &Request) {
+        self.say(&edit.bytes());
+        self.finish(edit.team());
+    }
+
+    /// Each field of each kind at and one past each limit, each pair of fields
+    /// that mustn't agree (both 0 is all right for legs), and each pair of those.
+    fn every_limit(&mut self) {
+        for kind in Kind::ALL {
+            let plain = a_fair_request(kind);
+            let oddities = oddities(kind);
+            for (index, odd) in oddities.iter().enumerate() {
+                for other in &oddities[index..] {
+                    let mut request = plain;
+                    set(&mut request, odd);
+                    set(&mut request, other);
+                    self.settle(&request);
+                }
+            }
+        }
+    }
+
+    /// A move between each two passages of a fresh book, so that all its quotes
+    /// are wrong: Stale names the word that is claimed first.
+    fn every_rank(&mut self) {
+        for (p, q) in (0..PASSAGES).flat_map(|p| (0..PASSAGES).map(move |q| (p, q))) {
+            let mut request = a_fair_request(Kind::Move);
+            set(&mut request, &[(P, p), (Q, q), (F, 0)]);
+            self.settle(&request);
+        }
+    }
+
+    pub fn fuzz(&mut self, frames: i64) {
+        let end = self.frames + frames;
+        while self.frames < end {
+            if self.rng.percent(50) {
+                self.turn();
+            } else {
+                self.oddity();
+            }
+        }
+    }
+
+    /// A frame with something wrong, or nearly so.
+    fn oddity(&mut self) {
+        let team = self.rng.below(TEAMS);
+        let mut request = match self.rng.below(4) {
+            0 => Request::step(team),
+            1 => Request::look(self.rng.below(WORDS)),
+            _ => self.drafted(team),
+        };
+        let frame = match self.rng.below(9) {
+            0 | 1 => self.at_a_limit(&mut request),
+            2 => self.repeating(&mut request),
+            3 => self.other_kind(&request),
+            4 => self.other_length(&request),
+            5 => self.other_team(&mut request),
+            6 => self.any_frame(),
+            7 => self.bit_turned(&request),
+            _ => request.bytes(),
+        };
+        self.say(&frame);
+    }
+
+    /// "fields at and one past each limit"; sometimes two of them.
+    fn at_a_limit(&mut self, request: &mut Request) -> Vec<u8> {
+        for _ in 0..self.rng.between(1, 2) {
+            let field = self.rng.pick(request.kind.form());
+            let (least, greatest) = limits(request.kind, field);
+            let value = self.rng.pick(&[least - 1, least, greatest, greatest + 1]);
+            if field.carries(value) {
+                request.set(field, value);
+            }
+        }
+        request.bytes()
+    }
+
+    /// from = to, q = p, leg numbers repeated; sometimes out of range as well.
+    fn repeating(&mut self, request: &mut Request) -> Vec<u8> {
+        let (one, other) = self.rng.pick(&PAIRS);
+        request.set(one, request.get(other));
+        if self.rng.percent(20) {
+            return self.at_a_limit(request);
+        }
+        request.bytes()
+    }
+
+    fn other_kind(&mut self, request: &Request) -> Vec<u8> {
+        let kind = self.rng.pick(&[0, 1, 2, 3, 4, 5, 6, 7, 128, 138, 256, 261, 65_535]);
+        framed(kind, &request.bytes()[4..])
+    }
+
+    fn other_length(&mut self, request: &Request) -> Vec<u8> {
+        let count = self.rng.between(0, 60);
+        let mut body = request.bytes().split_off(4);
+        body.extend(self.rng.bytes(60));
+        body.truncate(count as usize);
+        framed(request.kind as i64, &body)
+    }
+
+    fn other_team(&mut self, request: &mut Request) -> Vec<u8> {
+        let team = self.rng.pick(&[15, 16, 17, 31, 256, 65_535]);
+        request.set(Team, team);
+        request.bytes()
+    }
+
+    /// A whole frame of any length up to 62, random after its length field.
+    fn any_frame(&mut self) -> Vec<u8> {
+        let any = self.rng.between(0, 62);
+        let length = self.rng.pick(&[0, 1, 2, 3, 4, 62, any, any]);
+        let mut frame = (length as u16).to_le_bytes().to_vec();
+        frame.extend(self.rng.bytes(length));
+        frame
+    }
+
+    fn bit_turned(&mut self, request: &Request) -> Vec<u8> {
+        let mut frame = request.bytes();
+        let at = self.rng.between(2, frame.len() as i64 - 1) as usize;
+        frame[at] ^= 1 << self.rng.below(8);
+        frame
+    }
+}
+
+/// Sixteen teams at a few passages, with a final sweep of looks.
+pub fn contention(seed: u64, frames: i64) -> Vec<u8> {
+    let mut author = Author::new(seed);
+    author.contend(frames);
+    author.sweep();
+    author.bytes
+}
+
+/// A book with all its legs, then contention over it.
+pub fn full(seed: u64, frames: i64) -> Vec<u8> {
+    let mut author = Author::new(seed);
+    author.fill();
+    author.contend(frames);
+    author.sweep();
+    author.bytes
+}
+
+/// All ranks, fields at their limits, then contention.
+pub fn at_limits(seed: u64, frames: i64) -> Vec<u8> {
+    let mut author = Author::new(seed);
+    author.every_rank();
+    author.every_limit();
+    author.contend(frames);
+    author.sweep();
+    author.bytes
+}
+
+pub fn fuzz(seed: u64, frames: i64) -> Vec<u8> {
+    let mut author = Author::new(seed);
+    author.fuzz(frames);
+    author.sweep();
+    author.bytes
+}
+
+/// A stream with a few bytes changed, lost or added anywhere, or random bytes.
+pub fn damaged(seed: u64, frames: i64) -> Vec<u8> {
+    let mut author = Author::new(seed);
+    author.contend(frames);
+    let Author { mut rng, mut bytes, .. } = author;
+    for _ in 0..rng.between(1, 3) {
+        let at = rng.below(bytes.len() as i64) as usize;
+        match rng.below(4) {
+            0 => bytes[at] = rng.next() as u8,
+            1 => bytes.insert(at, rng.below(8) as u8),
+            2 => drop(bytes.remove(at)),
+            _ => bytes.splice(at.., rng.bytes(200)).for_each(drop),
+        }
+    }
+    bytes
+}
+
+/// Short streams with every ending that "The program survey" speaks of.
+pub fn endings(seed: u64) -> Vec<Vec<u8>> {
+    let mut author = Author::new(seed);
+    author.contend(40);
+    let before = author.bytes.clone();
+    let edit = author.drafted(1).bytes();
+    let lengths = [0u16, 1, 2, 61, 62, 63, 64, 255, 256, 65_535];
+    let mut tails: Vec<Vec<u8>> = (0..=edit.len()).map(|cut| edit[..cut].to_vec()).collect();
+    for length in lengths {
+        for count in [0, 1, 2, i64::from(length.min(70))] {
+            tails.push([&length.to_le_bytes()[..], &author.rng.bytes(count)[..]].concat());
+        }
+        // A whole piece of that length, then frames that may or may not be read.
+        let whole = [&length.to_le_bytes()[..], &author.rng.bytes(i64::from(length))[..]].concat();
+        tails.push([&whole[..], &before[..]].concat());
+    }
+    let with_before = tails.iter().map(|tail| [&before[..], &tail[..]].concat());
+    with_before.chain(tails.iter().cloned()).collect()
+}
+
+/// The whole case of document 01.
+pub fn whole_case() -> (Vec<u8>, Vec<u8>) {
+    let add = "18 00 01 00 00 00 00 00 01 00 00 00 00 00 01 00 02 00 88 13 00 00 28 23 6A FF";
+    let mut input = of_hex(add);
+    let mut output = of_hex("04 00 80 00 05 00");
+    (0..10).for_each(|_| input.extend(of_hex("04 00 05 00 00 00")));
+    (1..=5).for_each(|k| output.extend(of_hex(&format!("04 00 81 00 {k:02X} 00"))));
+    (1..=4).for_each(|k| output.extend(of_hex(&format!("04 00 84 00 {k:02X} 00"))));
+    output.extend(of_hex("06 00 86 00 0A 00 00 00"));
+    (input, output)
+}
+
+pub fn of_hex(text: &str) -> Vec<u8> {
+    let byte = |pair| u8::from_str_radix(pair, 16).expect("two hexadecimal digits");
+    text.split_whitespace().map(byte).collect()
+}
+
+/// The stored stream: the whole case, contention, fuzz, a sweep, a torn end.
+pub fn stored() -> Vec<u8> {
+    let mut author = Author::new(STORED_SEED);
+    for frame in split(&whole_case().0) {
+        author.say(frame);
+    }
+    author.contend(4_000);
+    author.fuzz(1_500);
+    author.contend(1_000);
+    author.sweep();
+    author.bytes.extend([0x18, 0x00, 0x01]);
+    author.bytes
+}
+
+const STORED_SEED: u64 = 12;

@@ -1,0 +1,121 @@
+//! What came how often, and what must have come at all.
+
+use crate::frames::{parse, split, Answer, Field::*, Kind, Request};
+use std::collections::BTreeMap;
+
+#[derive(Default)]
+pub struct Tally {
+    pub frames: i64,
+    pub streams: i64,
+    counts: BTreeMap<String, i64>,
+}
+
+/// Each team's last edit, whether it waited, and whether it found a word differing.
+type Open = BTreeMap<i64, (Request, bool, bool)>;
+
+/// Every answer, and every refusal that a stream can reach: 1 and 2 are the
+/// caller's, and 7 needs a ticket table that was lent.
+#[rustfmt::skip]
+const ANSWERS: [&str; 19] = [
+    "Standing", "Claimed", "Waiting", "Found", "Put", "Returned", "Granted", "Stale", "Value",
+    "Held", "Refused", "Refused 3", "Refused 4", "Refused 5", "Refused 6", "Refused 8",
+    "Refused 9", "Refused 10", "Refused 11",
+];
+
+/// What streams with contention must also have shown.
+#[rustfmt::skip]
+const OUTCOMES: [&str; 10] = [
+    "granted Add", "granted Correct", "granted Move", "granted Strike of newest",
+    "granted Strike of oldest", "granted Strike of middle", "granted Strike of only",
+    "stale at once", "stale after Found", "granted after waits",
+];
+
+impl Tally {
+    fn one_more(&mut self, name: &str) {
+        *self.counts.entry(name.to_string()).or_default() += 1;
+    }
+
+    pub fn of(&self, name: &str) -> i64 {
+        self.counts.get(name).copied().unwrap_or(0)
+    }
+
+    pub fn add(&mut self, input: &[u8], output: &[u8]) {
+        self.streams += 1;
+        let mut open = BTreeMap::new();
+        for (frame, bytes) in split(input).into_iter().zip(split(output)) {
+            self.frames += 1;
+            let Some(answer) = Answer::of_bytes(bytes) else { continue };
+            self.count_answer(answer);
+            if let Ok(request) = parse(frame) {
+                self.count_outcome(&mut open, request, answer);
+            }
+        }
+    }
+
+    fn count_answer(&mut self, answer: Answer) {
+        let shown = format!("{answer:?}");
+        self.one_more(shown.split('(').next().unwrap_or(""));
+        if let Answer::Refused(number) = answer {
+            self.one_more(&format!("Refused {number}"));
+        }
+    }
+
+    fn count_outcome(&mut self, open: &mut Open, request: Request, answer: Answer) {
+        let team = request.team();
+        match (answer, open.get_mut(&team)) {
+            (Answer::Standing(_), _) => drop(open.insert(team, (request, false, false))),
+            (Answer::Waiting(_), Some((_, waited, _))) => *waited = true,
+            (Answer::Found(_), Some((_, _, found))) => *found = true,
+            (Answer::Stale(..), Some((_, _, true))) => self.one_more("stale after Found"),
+            (Answer::Stale(..), Some((_, _, false))) => self.one_more("stale at once"),
+            (Answer::Granted(_), Some((edit, waited, _))) => {
+                self.one_more(&granted_name(edit));
+                if *waited {
+                    self.one_more("granted after waits");
+                }
+            }
+            _ => {}
+        }
+    }
+
+    fn missing<'a>(&self, names: &[&'a str]) -> Vec<&'a str> {
+        names.iter().copied().filter(|name| self.of(name) == 0).collect()
+    }
+
+    /// Complains of answers and refusals that never came.
+    pub fn complete(&self, with_outcomes: bool) -> Result<(), String> {
+        let mut missing = self.missing(&ANSWERS);
+        if with_outcomes {
+            missing.extend(self.missing(&OUTCOMES));
+        }
+        if missing.is_empty() {
+            Ok(())
+        } else {
+            Err(format!("never came: {}", missing.join(", ")))
+        }
+    }
+
+    /// One line of all counts of answers and refusals.
+    pub fn summary(&self) -> String {
+        let counts = ANSWERS.iter().map(|name| format!("{name} {}", self.of(name)));
+        let counts = counts.collect::<Vec<_>>().join(", ");
+        format!("{} frames in {} streams: {counts}", self.frames, self.streams)
+    }
+
+    /// One line of how edits came out.
+    pub fn outcomes(&self) -> String {
+        let counts = OUTCOMES.iter().map(|name| format!("{name} {}", self.of(name)));
+        counts.collect::<Vec<_>>().join(", ")
+    }
+}
+
+fn granted_name(edit: &Request) -> String {
+    let which = match (edit.kind, edit.get(F), edit.get(S)) {
+        (Kind::Strike, 0, 0) => " of only",
+        (Kind::Strike, 0, _) => " of newest",
+        (Kind::Strike, _, 0) => " of oldest",
+        (Kind::Strike, _, _) => " of middle",
+        _ => "",
+    };
+    format!("granted {:?}{which}", edit.kind)
+}

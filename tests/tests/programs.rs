@@ -1,0 +1,79 @@
+//! The comparison against the model run as a program, right and wrong.
+
+use std::path::PathBuf;
+use std::process::{Command, Output};
+
+const TESTS: &str = env!("CARGO_BIN_EXE_tests");
+
+fn tests(words: &[&str]) -> Output {
+    Command::new(TESTS).args(words).output().expect("the program runs")
+}
+
+fn said(output: &Output) -> String {
+    String::from_utf8_lossy(&[&output.stdout[..], &output.stderr[..]].concat()).to_string()
+}
+
+fn folder(name: &str) -> PathBuf {
+    PathBuf::from(env!("CARGO_TARGET_TMPDIR")).join(name)
+}
+
+#[test]
+fn the_model_agrees_with_itself() {
+    let output = tests(&["compare", TESTS, "--", "serve"]);
+    assert!(output.status.success(), "{}", said(&output));
+    let last = said(&output).lines().last().unwrap_or("").to_string();
+    let frames = last.split(" frames in ").next().and_then(|text| text.split(' ').next_back());
+    let frames: i64 = frames.and_then(|number| number.parse().ok()).expect("a count of frames");
+    assert!(frames >= 1_000_000, "{last}");
+}
+
+/// A wrong program must be told apart, with the frame in words.
+fn told_apart(fault: &str) {
+    let output = tests(&["compare", TESTS, "--patience", "3", "--", "serve", "--wrong", fault]);
+    assert!(!output.status.success(), "{fault} passes");
+    for word in ["first difference", "asked:", "model:", "program:"] {
+        assert!(said(&output).contains(word), "{fault}: {}", said(&output));
+    }
+}
+
+#[test]
+fn wrong_programs_are_told_apart() {
+    for fault in ["waiting-when-free", "gives-back-new", "listing-order", "word-order"] {
+        told_apart(fault);
+    }
+    for fault in ["shows-mark", "strikes-itself", "uncounted-waits", "reports-only", "late"] {
+        told_apart(fault);
+    }
+}
+
+#[test]
+fn a_program_that_is_silent_or_ends_early_fails() {
+    let silent = tests(&["compare", "sleep", "--patience", "1", "--", "20"]);
+    assert!(said(&silent).contains("doesn't end"), "{}", said(&silent));
+    let absent = tests(&["compare", "true"]);
+    assert!(said(&absent).contains("program: nothing"), "{}", said(&absent));
+    assert!(!tests(&["compare", "cat"]).status.success());
+    assert!(!tests(&["compare", "no-such-program"]).status.success());
+    assert!(!tests(&["whole-case", "cat"]).status.success());
+}
+
+#[test]
+fn the_stored_files_are_checked() {
+    let dir = folder("stored");
+    let name = dir.to_str().expect("a readable name");
+    assert!(tests(&["stored", name]).status.success());
+    assert!(tests(&["stored", name, "--check"]).status.success());
+    let mut output = std::fs::read(dir.join("stdout")).expect("stored");
+    output[100] ^= 1;
+    std::fs::write(dir.join("stdout"), output).expect("written");
+    assert!(!tests(&["stored", name, "--check"]).status.success());
+}
+
+#[test]
+fn a_lent_text_is_checked() {
+    let file = folder("lent.txt");
+    let text = include_str!("../lent.txt").replace("= returns 12", "= returns 6");
+    std::fs::write(&file, text).expect("written");
+    let output = tests(&["lent", file.to_str().expect("a readable name"), "--check"]);
+    assert!(!output.status.success() && said(&output).contains("model: = returns 12"));
+}
