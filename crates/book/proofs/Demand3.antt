@@ -3,12 +3,15 @@ use mathlib.Core.Path.{_≡_, refl, sym, ap, subst, _∙_}
 use mathlib.Core.Bool.{Bool, true, false, not, false≢true}
 use mathlib.Core.List.{List, [], _∷_}
 use mathlib.Core.Option.{Option, none, some}
+use mathlib.Core.Logic.{inl, inr}
 use Prim.Native.Nat.{ℕ, _<_}
 use native.Mathlib.Omega.{arith}
 use lib.ListN.{length, length-replicate}
 use borrow.Author.Tests.{eq-eqb}
 use Rattle.words.specs.Tests.{allHold}
 use Rattle.words.specs.Words.{wordsInBook, readOf, markOf}
+use Rattle.tickets.specs.declared.Phase.{Phase}
+use Rattle.tickets.specs.declared.Phase.the-variants.{NoTicket, Claiming, Putting, GivingBack}
 use Rattle.tickets.specs.declared.Ticket.{Ticket}
 use Rattle.tickets.specs.Tickets.{ticketOf, freshTickets, hasTicket}
 use Rattle.tickets.specs.Invariant.{Holds, FitSlot}
@@ -22,14 +25,14 @@ use Rattle.plain.proofs.EditLaws.{fresh-is-sound}
 use Rattle.book.specs.Call.{badlyMade, doneOf, callOf}
 use Rattle.book.specs.Run.{Call, framed, OfBytes, Shared, fresh, heardOf, leftBy, answerHeard, runFrom, run}
 use Rattle.book.specs.Order.{decided, looked, Noted, Notes, noNotes, hearAnswer, notesFrom, notesOn, holds, holdsWord}
-use Rattle.book.specs.Linearizable.{playFrom, play, grantedOf, Every, heardOn, Demand3}
+use Rattle.book.specs.Linearizable.{playFrom, play, grantedOf, DecidedAtMostOnce, StandingRight, Every, heardOn, Demand3}
 use Rattle.book.specs.Demand1.{TableFits}
 use Rattle.book.proofs.Tables.{tables-stay}
 use Rattle.book.proofs.Hearing.{answers-heard}
 use Rattle.book.proofs.Orders.{RightFrom, right-at}
 use Rattle.book.proofs.Ordered.{Ordered}
 use Rattle.book.proofs.Freshness.{fresh-words, fresh-legs, fresh-slots, fresh-table}
-use Rattle.book.proofs.Tied.{Tied, known-stands, holds-heard, heard-holds}
+use Rattle.book.proofs.Tied.{HeardIn, Tied, known-stands, holds-heard, heard-holds}
 use Rattle.book.proofs.Kept.{Good, call-kept}
 
 -- At the start.
@@ -83,6 +86,17 @@ well-made ticket slot = if-stands (hasTicket (ticket .phase)) refl
     if-stands true e = rw (e, fit-well-made ticket slot e) refl
     if-stands false e = rw e refl
 
+-- A standing ticket is undecided while claiming, and decided once after that.
+phase-decided : (phase : Phase) (ticket : Ticket) (noted : Noted) → HeardIn phase ticket noted → DecidedAtMostOnce noted
+phase-decided NoTicket ticket noted heard = absurd heard
+phase-decided Claiming ticket noted heard = inl (heard .undecided)
+phase-decided Putting ticket noted heard = let decided = heard .decided in inr (decided .decision, decided .once, decided .right)
+phase-decided GivingBack ticket noted heard = let decided = heard .decided in inr (decided .decision, decided .once, decided .right)
+
+standing-right : (ticket : Ticket) (note : Option Noted) → Tied ticket note → StandingRight note
+standing-right ticket none absent = tt
+standing-right ticket (some noted) known = phase-decided (ticket .phase) ticket noted (known .phase)
+
 -- The book and tickets that a call leaves are those of what it does.
 left-kept : (shared : Shared) (n : Notes) → TableFits (shared .tickets) → Good shared n → (frame out : Bytes) → areBytes frame ≡ true
     → Good (leftBy shared (framed frame out)) (hearAnswer n (framed frame out) (some (doneOf (shared .book) (shared .tickets) frame out .answer)))
@@ -98,8 +112,8 @@ calls-keep (framed frame out ∷ calls) bytes shared n table good =
     calls-keep calls (bytes .1) (leftBy shared (framed frame out)) _ (tables-stay (shared .book) (shared .tickets) frame out table) one-kept
   where
     one-kept : Good (leftBy shared (framed frame out)) (hearAnswer n (framed frame out) (answerHeard (heardOf shared (framed frame out))))
-    one-kept = subst (λ answer. Good (leftBy shared (framed frame out)) (hearAnswer n (framed frame out) answer)) (sym (answers-heard shared frame out table (bytes .0 .0)))
-        (left-kept shared n table good frame out (bytes .0 .0))
+    one-kept = subst (λ answer. Good (leftBy shared (framed frame out)) (hearAnswer n (framed frame out) answer)) (sym (answers-heard shared frame out table (bytes .0)))
+        (left-kept shared n table good frame out (bytes .0))
 
 run-good : (calls : List Call) → Every OfBytes calls → Good (run calls .end) (notesOn (heardOn calls))
 run-good calls bytes = calls-keep calls bytes fresh noNotes fresh-table fresh-good
@@ -115,6 +129,7 @@ demand3 calls bytes =
       looks-agree = λ before after word value is. right-at freshPlain before after (looked word value) (subst (RightFrom freshPlain) is (good .ordered .right));
       words-agree = λ word inside unheld. unheld-agrees shared n good word inside unheld;
       last-answers = good .ends;
+      decided-once = λ team. standing-right (ticketOf (shared .tickets) team) (n .tickets team) (good .tied team);
       counts-add-up = good .ordered .counts;
       held-marked = λ team word held. held-mark shared n good team word held;
       plain-sound = good .ordered .sound;

@@ -1,13 +1,19 @@
 -- What is heard of a call, read from the number returned and the bytes written, is the answer of its definition.
 use Prim.Native.Nat.{ℕ, _≤_, _<_}
-use mathlib.Core.Path.{_≡_, ap, _∙_}
+use mathlib.Core.Path.{_≡_, refl, ap, subst, _∙_}
 use mathlib.Core.Bool.{true}
-use mathlib.Core.Option.{Option, some}
+use mathlib.Core.Option.{Option, none, some}
 use native.Mathlib.Decide.{decLt}
 use native.Mathlib.Omega.{arith}
 use lib.ListN.{length, take, drop}
 use lib.Seq.{take-append-seam, drop-append-seam}
 use borrow.Author.Tests.{lt-ltb, le-ltb}
+use Rattle.words.specs.Words.{Words}
+use Rattle.tickets.specs.declared.Tickets.{Tickets}
+use Rattle.frames.specs.declared.Request.{Request}
+use Rattle.frames.specs.declared.Request.the-variants.{Open, Step, Look}
+use Rattle.frames.specs.Requests.{requestIn}
+use Rattle.frames.proofs.Ranges.{within-in, within-above}
 use Rattle.frames.specs.declared.Answer.{Answer}
 use Rattle.frames.specs.declared.Answer.the-variants as Answer
 use Rattle.frames.specs.Numbers.{Bytes}
@@ -15,9 +21,10 @@ use Rattle.frames.specs.Answers.{answerFrame, longestAnswer, written}
 use Rattle.frames.specs.Reading.{answerIn, answerFits}
 use Rattle.frames.proofs.Framed.{answer-frames-sound}
 use Rattle.frames.proofs.ReadsBack.{answers-read-back}
-use Rattle.book.specs.Call.{Sent, number, bytes, sentOf, writtenBy, doneOf, callOf}
+use Rattle.book.specs.Call.{refusalOf, requestDone, refusedOr, Sent, number, bytes, sentOf, writtenBy, doneOf, callOf}
 use Rattle.book.specs.Run.{Call, framed, Heard, answerHeard}
 use Rattle.book.specs.Demand1.{AnswersHeard}
+use Rattle.book.proofs.Refusing.{Among, refusal-among}
 use Rattle.book.proofs.Fitting.{answer-fits}
 
 -- An answer's frame, written to an output: it is read back, and later bytes stay.
@@ -45,11 +52,11 @@ frame-heard : (call : Call) (out : Bytes) (answer : Answer) → answerFits answe
 unfolding answerHeard
 frame-heard call out answer fits =
     let sound = in-frame out answer fits in
-    rw (le-ltb (length (answerFrame answer)) 4 (sound .at-least)) (sound .bytes-read)
+    rw (within-above 1 2 (length (answerFrame answer)) (omega (arith, sound .at-least))) (sound .bytes-read)
 
-number-heard : (call : Call) (out : Bytes) (refusal : ℕ) → refusal < 3 → answerHeard (heardBy call (refusal, out)) ≡ some (Answer.Refused refusal)
+number-heard : (call : Call) (out : Bytes) (refusal : ℕ) → 1 ≤ refusal → refusal < 3 → answerHeard (heardBy call (refusal, out)) ≡ some (Answer.Refused refusal)
 unfolding answerHeard
-number-heard call out refusal small = rw (lt-ltb refusal 4 (omega arith))
+number-heard call out refusal least small = rw (within-in 1 2 refusal least (omega arith)) refl
 
 -- 1 and 2 go out as a number alone, 3 to 11 in a frame.
 pub sent-alone : (refusal : ℕ) → refusal < 3 → sentOf (Answer.Refused refusal) ≡ number refusal
@@ -60,19 +67,40 @@ pub sent-refused : (refusal : ℕ) → 3 ≤ refusal → sentOf (Answer.Refused 
 unfolding sentOf
 sent-refused refusal large = rw (le-ltb refusal 3 large)
 
-sent-heard : (call : Call) (out : Bytes) (answer : Answer) → answerFits answer ≡ true → answerHeard (heardBy call (writtenBy out (sentOf answer))) ≡ some answer
+-- A refusal has a number from 1 on.
+abbrev Numbered : Answer → Type 0
+Numbered (Answer.Standing n) = Unit {0}
+Numbered (Answer.Step answer) = Unit {0}
+Numbered (Answer.Look answer) = Unit {0}
+Numbered (Answer.Refused refusal) = 1 ≤ refusal
+
+request-numbered : (words : Words) (tickets : Tickets) (request : Request) → Numbered (requestDone words tickets request .answer)
+unfolding requestDone
+request-numbered words tickets (Open team edit) = tt
+request-numbered words tickets (Step team) = tt
+request-numbered words tickets (Look word) = tt
+
+numbered : (words : Words) (tickets : Tickets) (frame out : Bytes) → Numbered (doneOf words tickets frame out .answer)
+unfolding doneOf
+numbered words tickets frame out = by (refusalOf words tickets frame out) refl
+  where
+    by : (refusal : Option ℕ) → refusalOf words tickets frame out ≡ refusal → Numbered (refusedOr refusal words tickets (requestIn frame) .answer)
+    by none is = request-numbered words tickets (requestIn frame)
+    by (some refusal) is = subst (Among 1 11) is (refusal-among words tickets frame out) .0
+
+sent-heard : (call : Call) (out : Bytes) (answer : Answer) → Numbered answer → answerFits answer ≡ true → answerHeard (heardBy call (writtenBy out (sentOf answer))) ≡ some answer
 unfolding sentOf
-sent-heard call out (Answer.Standing n) fits = frame-heard call out (Answer.Standing n) fits
-sent-heard call out (Answer.Step answer) fits = frame-heard call out (Answer.Step answer) fits
-sent-heard call out (Answer.Look answer) fits = frame-heard call out (Answer.Look answer) fits
-sent-heard call out (Answer.Refused refusal) fits =
+sent-heard call out (Answer.Standing n) least fits = frame-heard call out (Answer.Standing n) fits
+sent-heard call out (Answer.Step answer) least fits = frame-heard call out (Answer.Step answer) fits
+sent-heard call out (Answer.Look answer) least fits = frame-heard call out (Answer.Look answer) fits
+sent-heard call out (Answer.Refused refusal) least fits =
     let hear : Sent → Option Answer = λ (sent : Sent). answerHeard (heardBy call (writtenBy out sent)) in
     elim (decLt refusal 3) [
-      | yes small ↦ ap hear (sent-alone refusal small) ∙ number-heard call out refusal small
+      | yes small ↦ ap hear (sent-alone refusal small) ∙ number-heard call out refusal least small
       | no large ↦ ap hear (sent-refused refusal (omega arith)) ∙ frame-heard call out (Answer.Refused refusal) fits
     ]
 
 pub answers-heard : AnswersHeard
 unfolding callOf
 answers-heard shared frame out table are-bytes =
-    sent-heard (framed frame out) out (doneOf (shared .book) (shared .tickets) frame out .answer) (answer-fits (shared .book) (shared .tickets) table frame out)
+    sent-heard (framed frame out) out (doneOf (shared .book) (shared .tickets) frame out .answer) (numbered (shared .book) (shared .tickets) frame out) (answer-fits (shared .book) (shared .tickets) table frame out)

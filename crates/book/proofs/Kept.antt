@@ -40,7 +40,7 @@ use Rattle.plain.specs.Plain.{wordOf}
 use Rattle.plain.specs.Editing.{succeeds, perform}
 use Rattle.book.specs.Call.{refusalOf, Done, requestDone, refusedOr, doneOf}
 use Rattle.book.specs.Run.{Shared}
-use Rattle.book.specs.Order.{granted, stale, Event, decided, Noted, Last, wasGranted, wasStale, Ended, Notes, notes, retold, noteTicket, atStanding, withClaimed, withReleased, withWait, withStep, withFound, withDecision, endedBy, decide, hearStale, hearStepAnswer, hearStep, hearStanding, hearRequest}
+use Rattle.book.specs.Order.{granted, stale, Event, decided, Noted, Last, wasGranted, wasStale, Ended, Notes, notes, retold, noteTicket, atStanding, withClaimed, withReleased, withWait, withStep, withFound, withDecision, endedBy, decide, hearStale, hearStepAnswer, hearStep, hearStanding, hearRequest, noteOutOfTurn}
 use Rattle.book.specs.Linearizable.{play, EndedRight, TriesRight, Every, Differed, Repeats}
 use Rattle.book.specs.Demand1.{TableFits}
 use Rattle.book.proofs.Orders.{every-last}
@@ -397,7 +397,7 @@ module _ (shared : Shared) (n : Notes) (table : TableFits (shared .tickets)) (go
     where
       by-note : (note : Option Noted) → n .tickets team ≡ note → Tied (ticketOf (shared .tickets) team) note → After (Open team edit) (requestDone (shared .book) (shared .tickets) (Open team edit))
       by-note none is absent =
-          subst (Good record { book = shared .book; tickets = withTicket (shared .tickets) team (openedTicket edit) }) (sym (ap (λ note. hearStanding n team note edit) is))
+          subst (Good record { book = shared .book; tickets = withTicket (shared .tickets) team (openedTicket edit) }) (sym (ap (λ b. cond b (hearStanding n team (n .tickets team) edit) (noteOutOfTurn n)) (eq-eqb (targetCount edit) (targetCount edit) refl) ∙ ap (λ note. hearStanding n team note edit) is))
           (goes-on team inside (shared .book) (openedTicket edit) (n .order) (some (atStanding edit)) (n .ended) (good .whole)
           (opening-keeps (shared .book) (ticketOf (shared .tickets)) (wordOf (play (n .order))) team (openedTicket edit) (good .agree) empty (opened-fit edit fine (length (shared .book)) (good .whole)))
           (opened-known edit fine) (good .ordered) (good .ends) (good .tries))

@@ -8,6 +8,8 @@ pub mod Fitting
 pub mod Hearing
 pub mod Demand1
 pub mod SurveyRun
+pub mod StreamRun
+pub mod StreamPieces
 pub mod Orders
 pub mod Ordered
 pub mod Passing

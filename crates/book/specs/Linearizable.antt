@@ -4,6 +4,7 @@ use mathlib.Core.Path.{_≡_}
 use mathlib.Core.List.{List, [], _∷_, _++_, map}
 use mathlib.Core.Bool.{false, cond}
 use mathlib.Core.Option.{Option, none, some}
+use mathlib.Core.Logic.{_⊎_}
 use lib.ListN.{length}
 use Rattle.words.specs.Words.{Words, wordsInBook, readOf, markOf}
 use Rattle.tickets.specs.Tickets.{ticketOf}
@@ -79,6 +80,16 @@ pub record EndedRight (end : Ended) : Type 0 where
   pub right : DecisionRight (end .ticket .edit) decision
   pub fits : LastFits (end .ticket) decision (end .last)
 
+-- A ticket still standing is not decided yet, or was decided once, as the plain book finds.
+abbrev pub DecidedAtMostOnce : Noted → Type 0
+DecidedAtMostOnce ticket =
+    (ticket .decisions ≡ [])
+    ⊎ ((decision : Decision) × (ticket .decisions ≡ decision ∷ []) × DecisionRight (ticket .edit) decision)
+
+abbrev pub StandingRight : Option Noted → Type 0
+StandingRight none = Unit {0}
+StandingRight (some ticket) = DecidedAtMostOnce ticket
+
 -- The tries that a last answer tells.
 abbrev pub triesIn : Last → ℕ
 triesIn (wasGranted tries) = tries
@@ -126,6 +137,8 @@ pub record Linearizable (calls : List Call) : Type 0 where
       → readOf (bookAfter calls) word ≡ wordOf (plainAfter calls) word
   -- A ticket's last answer, once it has come, is Granted if its edit succeeded and Stale if not; no ticket is decided twice or ends undecided.
   pub last-answers : Every EndedRight (ended (heardOn calls))
+  -- A ticket still standing is decided at most once.
+  pub decided-once : (team : ℕ) → StandingRight (notesOn (heardOn calls) .tickets team)
   -- The counts of all passages sum to granted adds less granted strikes.
   pub counts-add-up : legsInBook (plainAfter calls) + grantedOf strikesIn (orderOf calls) ≡ grantedOf addsIn (orderOf calls)
   -- A word that a ticket holds is its team's mark, so that no word too many is taken for held.

@@ -58,7 +58,8 @@ pub record Ended : Type 0 where
   pub last : Last
 
 -- What a bystander has written down: the order so far, each team's ticket, the tickets that ended, and how often an answer came out
--- of turn (a Standing over a ticket still noted, or a step's answer where none is).
+-- of turn: a Standing over a ticket still noted or with another number of targets, a step's answer where no ticket is noted, an answer
+-- that does not fit its frame, or bytes that are no answer.
 pub record Notes : Type 0 where
   pub order : List Event
   pub tickets : ℕ → Option Noted
@@ -159,7 +160,7 @@ hearLook n word Held = n
 
 -- "Nothing else has a place in the order, and every refusal is passed over." An answer that does not fit its frame is out of turn.
 abbrev pub hearRequest : Notes → Request → Answer → Notes
-hearRequest n (Open team edit) (Answer.Standing targets) = hearStanding n team (n .tickets team) edit
+hearRequest n (Open team edit) (Answer.Standing targets) = cond (eqb targets (targetCount edit)) (hearStanding n team (n .tickets team) edit) (noteOutOfTurn n)
 hearRequest n (Open team edit) (Answer.Step answer) = noteOutOfTurn n
 hearRequest n (Open team edit) (Answer.Look answer) = noteOutOfTurn n
 hearRequest n (Open team edit) (Answer.Refused refusal) = n

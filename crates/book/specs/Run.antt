@@ -4,8 +4,8 @@ use mathlib.Core.Path.{_≡_}
 use mathlib.Core.List.{List, [], _∷_}
 use mathlib.Core.Bool.{true, cond}
 use mathlib.Core.Option.{Option, some}
-use lib.Dec.{ltb}
 use lib.ListN.{take, replicate}
+use Rattle.words.specs.Tests.{within}
 use Rattle.words.specs.Words.{Words, wordsInBook}
 use Rattle.tickets.specs.declared.Tickets.{Tickets}
 use Rattle.tickets.specs.Tickets.{freshTickets}
@@ -19,9 +19,9 @@ use Rattle.book.specs.Call.{callOf}
 pub data Call : Type 0 where
   framed : (frame out : Bytes) → Call
 
--- Frame and output are bytes.
+-- Its frame is bytes. (What stands in the output beforehand does not matter.)
 abbrev pub OfBytes : Call → Type 0
-OfBytes (framed frame out) = (areBytes frame ≡ true) × (areBytes out ≡ true)
+OfBytes (framed frame out) = areBytes frame ≡ true
 
 -- What the calls share: the book and the tickets.
 pub record Shared : Type 0 where
@@ -38,9 +38,9 @@ pub record Heard : Type 0 where
   pub returned : ℕ
   pub output : Bytes
 
--- The answer that was heard, read from the bytes written; a number below 4 is that refusal, and wrote nothing.
+-- The answer that was heard, read from the bytes written; the number 1 or 2 alone is that refusal, which writes nothing. None where it is no answer.
 unfoldable pub answerHeard : Heard → Option Answer
-answerHeard one = cond (ltb (one .returned) 4) (some (Refused (one .returned))) (answerIn (take (one .returned) (one .output)))
+answerHeard one = cond (within 1 2 (one .returned)) (some (Refused (one .returned))) (answerIn (take (one .returned) (one .output)))
 
 abbrev pub heardOf : Shared → Call → Heard
 heardOf shared (framed frame out) =

@@ -1,12 +1,15 @@
 -- The stream: all whole frames in a part of the input, answered one after another into a part of the output.
-use Prim.Native.Nat.{ℕ, zero, suc, _+_, _-_, _≤_}
-use mathlib.Core.List.{_++_}
+use Prim.Native.Nat.{ℕ, zero, suc, _+_, _*_, _-_, _<_, _≤_}
+use mathlib.Core.Path.{_≡_}
+use mathlib.Core.Logic.{_⊎_}
+use mathlib.Core.List.{List, _++_}
 use mathlib.Core.Bool.{cond}
 use lib.ListN.{length, take, drop}
 use lib.Dec.{eqb, ltb}
 use Rattle.words.specs.Words.{Words, wordsInBook}
 use Rattle.tickets.specs.declared.Tickets.{Tickets}
 use Rattle.frames.specs.Numbers.{Bytes, number16}
+use Rattle.frames.specs.Requests.{lengthField}
 use Rattle.frames.specs.Answers.{longestAnswer}
 use Rattle.book.specs.declared.Stop.{Stop}
 use Rattle.book.specs.declared.Stop.the-variants.{MoreInput, OutputFull, BadLength, NoBook}
@@ -14,7 +17,9 @@ use Rattle.book.specs.declared.Next.{Next}
 use Rattle.book.specs.declared.Next.the-variants.{Frame, End}
 use Rattle.book.specs.declared.Streamed.{Streamed}
 use Rattle.book.specs.Call.{callOf}
-use Rattle.book.specs.Survey.{longestField}
+use Rattle.book.specs.Run.{Shared, Run, runFrom}
+use Rattle.book.specs.Linearizable.{Every}
+use Rattle.book.specs.Survey.{longestField, joined, allWritten, callsOn}
 
 -- The bytes of the whole frame at a place of the input, or why there is none: a length field above 62, or bytes that are still to come.
 unfoldable pub nextAt : Bytes → ℕ → Next
@@ -56,3 +61,64 @@ streamFrom (suc most) words tickets input out at w =
 unfoldable pub streamOf : Words → Tickets → Bytes → Bytes → Streamed × Words × Bytes
 streamOf words tickets input out =
     cond (eqb (length words) wordsInBook) (streamFrom (length input) words tickets input out 0 0) (streamed tickets 0 0 NoBook, words, out)
+
+-- A whole frame: its length field is the count of bytes after it, and at most 62.
+abbrev pub WholeFrame : Bytes → Type 0
+WholeFrame frame = (length frame ≡ 2 + lengthField frame) × (lengthField frame ≤ longestField)
+
+-- Bytes that a whole frame starts.
+abbrev pub StartsWhole : Bytes → Type 0
+StartsWhole rest = (2 ≤ length rest) × (lengthField rest ≤ longestField) × (2 + lengthField rest ≤ length rest)
+
+-- When each stop is right, by what is left of the input and how many bytes of the output: nothing or the start of a frame; a whole frame, and no room for an answer; a length field above 62. A book of 4,096 words is never refused.
+abbrev pub StopRight : Stop → Bytes → ℕ → Type 0
+StopRight MoreInput rest room = (length rest < 2) ⊎ ((lengthField rest ≤ longestField) × (length rest < 2 + lengthField rest))
+StopRight OutputFull rest room = StartsWhole rest × (room < longestAnswer)
+StopRight BadLength rest room = (2 ≤ length rest) × (longestField < lengthField rest)
+StopRight NoBook rest room = ⊥
+
+abbrev pub sharing : Words → Tickets → Shared
+sharing words tickets = record { book = words; tickets = tickets }
+
+-- The single calls on frames, one after another.
+abbrev pub runOn : Shared → List Bytes → Run
+runOn shared frames = runFrom shared (callsOn frames)
+
+-- Statement: a stream is the list of single calls. What it consumed is whole frames, one after another; book and tickets are those that the calls on these frames leave; the calls' answers stand at the front of the output, whose later bytes and length stay; and it stopped where it must.
+pub record StreamRight (shared : Shared) (input out : Bytes) (result : Streamed × Words × Bytes) : Type 0 where
+  pub frames : List Bytes
+  pub all-whole : Every WholeFrame frames
+  pub consumed : result .0 .consumed ≡ length (joined frames)
+  pub parts : joined frames ++ drop (result .0 .consumed) input ≡ input
+  pub left : sharing (result .1) (result .0 .tickets) ≡ runOn shared frames .end
+  pub written : result .0 .written ≡ length (allWritten (runOn shared frames .heard))
+  pub output : result .2 ≡ allWritten (runOn shared frames .heard) ++ drop (result .0 .written) out
+  pub same-length : length (result .2) ≡ length out
+  pub stop-right : StopRight (result .0 .stop) (drop (result .0 .consumed) input) (length out - result .0 .written)
+
+abbrev pub StreamIsRun : Type 0
+StreamIsRun = (words : Words) (tickets : Tickets) (input out : Bytes) → length words ≡ wordsInBook → StreamRight (sharing words tickets) input out (streamOf words tickets input out)
+
+-- Room for every answer: a frame has at least two bytes, an answer at most twelve.
+abbrev pub Roomy : Bytes → Bytes → Type 0
+Roomy input out = longestAnswer * length input ≤ 2 * length out
+
+-- What a stream wrote.
+abbrev pub bytesOf : Streamed × Words × Bytes → Bytes
+bytesOf result = take (result .0 .written) (result .2)
+
+-- Statement: input in pieces is answered alike. Streaming one piece into any output, and then what it left with the next, gives the bytes, the book, the tickets and the stop of streaming both at once.
+pub record Alike (first second whole : Streamed × Words × Bytes) : Type 0 where
+  pub bytes : bytesOf first ++ bytesOf second ≡ bytesOf whole
+  pub left : sharing (second .1) (second .0 .tickets) ≡ sharing (whole .1) (whole .0 .tickets)
+  pub consumed : first .0 .consumed + second .0 .consumed ≡ whole .0 .consumed
+  pub stop : second .0 .stop ≡ whole .0 .stop
+
+abbrev pub PiecesSuffice : Type 0
+PiecesSuffice =
+    (words : Words) (tickets : Tickets) (piece next out later both : Bytes)
+    → length words ≡ wordsInBook
+    → let first = streamOf words tickets piece out in
+    let rest = drop (first .0 .consumed) piece ++ next in
+    Roomy rest later → Roomy (piece ++ next) both
+    → Alike first (streamOf (first .1) (first .0 .tickets) rest later) (streamOf words tickets (piece ++ next) both)
