@@ -25,13 +25,14 @@ pub enum Phase {
 }
 
 // A ticket (in the source document: a multi-word compare-and-swap descriptor). Its k-th target is the
-// k-th of words, quoted and new. So laid out, it is passed by value at little cost.
+// k-th of words, quoted and new. The fields stand so that a copy never straddles two of them: it is passed
+// by value at little cost.
 pub struct Ticket {
+    pub words: [u16; Limits::TARGETS],
+    pub tries: u32,
     pub quoted: [u64; Limits::TARGETS],
     pub new: [u64; Limits::TARGETS],
-    pub words: [u16; Limits::TARGETS],
     pub n: u16,
-    pub tries: u32,
     pub claimed: u16,
     pub done: u16,
     pub phase: Phase,
@@ -127,15 +128,19 @@ impl Ticket {
         }
     }
 
+    // The arrays are indexed in locals of their own, so that the ticket itself can stay in registers.
     pub fn target(self, k: u16) -> Target
         requires { ⌜ k < mostTargets ⌝ }
         ensures { λ r. ⌜ r ≡ targetAt self k ⌝ }
     {
         let at = k as usize;
+        let words = self.words;
+        let quoted = self.quoted;
+        let new = self.new;
         Target {
-            word: self.words[at],
-            quoted: self.quoted[at],
-            new: self.new[at],
+            word: words[at],
+            quoted: quoted[at],
+            new: new[at],
         }
     }
 
