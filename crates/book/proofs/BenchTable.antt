@@ -1,8 +1,12 @@
--- The table of twelve is right, by computation.
+-- The table of twelve and the whole case are right, by computation.
 use mathlib.Core.Path.{refl}
-use Rattle.book.specs.Bench.{BenchExamples}
+use Rattle.book.specs.Bench.{BenchExamples, WholeCase}
 use Rattle.book.proofs.Computing.{everything}
 
 pub bench-examples : BenchExamples
 unfolding everything
 bench-examples = (refl, (refl, (refl, (refl, (refl, (refl, (refl, (refl, (refl, (refl, (refl, (refl, tt))))))))))))
+
+pub whole-case : WholeCase
+unfolding everything
+whole-case = refl

@@ -5,7 +5,6 @@ use mathlib.Core.Bool.{Bool, true, false}
 use mathlib.Core.List.{List, [], _∷_, _++_}
 use lib.ListN.{replicate, take}
 use Rattle.frames.specs.declared.Request.the-variants.{Open}
-use Rattle.frames.specs.Numbers.{Bytes}
 use Rattle.frames.specs.Answers.{longestAnswer}
 use Rattle.frames.specs.Writing.{requestFrame}
 use Rattle.plain.specs.Plain.{Plain}
@@ -13,16 +12,8 @@ use Rattle.book.specs.Run.{Call, framed}
 use Rattle.book.specs.Order.{granted, Event, decided, wasGranted, Last, Ended, ended, holds}
 use Rattle.book.specs.Linearizable.{play, bookAfter, heardOn, orderOf}
 use Rattle.book.specs.Survey.{allWritten}
-use Rattle.book.specs.Bench.{thatMeasure, firstLeg}
+use Rattle.book.specs.Bench.{thatMeasure, firstLeg, addFrame, stepFrame, wholeCaseOutput}
 use Rattle.book.proofs.ExampleCalls.{everyRun, leg, plainWords}
-
-abbrev addFrame : Bytes
-addFrame =
-    0x18 ∷ 0x00 ∷ 0x01 ∷ 0x00 ∷ 0x00 ∷ 0x00 ∷ 0x00 ∷ 0x00 ∷ 0x01 ∷ 0x00 ∷ 0x00 ∷ 0x00 ∷ 0x00 ∷ 0x00
-    ∷ 0x01 ∷ 0x00 ∷ 0x02 ∷ 0x00 ∷ 0x88 ∷ 0x13 ∷ 0x00 ∷ 0x00 ∷ 0x28 ∷ 0x23 ∷ 0x6A ∷ 0xFF ∷ []
-
-abbrev stepFrame : Bytes
-stepFrame = 0x04 ∷ 0x00 ∷ 0x05 ∷ 0x00 ∷ 0x00 ∷ 0x00 ∷ []
 
 -- The add's frame is that of its fields.
 add-frame : requestFrame (Open 0 (firstLeg 1 0 thatMeasure)) ≡ addFrame
@@ -33,22 +24,7 @@ add-frame = refl
 abbrev partOfCase : ℕ → List Call
 partOfCase many = framed addFrame (replicate longestAnswer 0) ∷ replicate many (framed stepFrame (replicate longestAnswer 0))
 
-abbrev output : Bytes
-output =
-    0x04 ∷ 0x00 ∷ 0x80 ∷ 0x00 ∷ 0x05 ∷ 0x00
-    ∷ 0x04 ∷ 0x00 ∷ 0x81 ∷ 0x00 ∷ 0x01 ∷ 0x00
-    ∷ 0x04 ∷ 0x00 ∷ 0x81 ∷ 0x00 ∷ 0x02 ∷ 0x00
-    ∷ 0x04 ∷ 0x00 ∷ 0x81 ∷ 0x00 ∷ 0x03 ∷ 0x00
-    ∷ 0x04 ∷ 0x00 ∷ 0x81 ∷ 0x00 ∷ 0x04 ∷ 0x00
-    ∷ 0x04 ∷ 0x00 ∷ 0x81 ∷ 0x00 ∷ 0x05 ∷ 0x00
-    ∷ 0x04 ∷ 0x00 ∷ 0x84 ∷ 0x00 ∷ 0x01 ∷ 0x00
-    ∷ 0x04 ∷ 0x00 ∷ 0x84 ∷ 0x00 ∷ 0x02 ∷ 0x00
-    ∷ 0x04 ∷ 0x00 ∷ 0x84 ∷ 0x00 ∷ 0x03 ∷ 0x00
-    ∷ 0x04 ∷ 0x00 ∷ 0x84 ∷ 0x00 ∷ 0x04 ∷ 0x00
-    ∷ 0x06 ∷ 0x00 ∷ 0x86 ∷ 0x00 ∷ 0x0A ∷ 0x00 ∷ 0x00 ∷ 0x00
-    ∷ []
-
-written-10 : allWritten (heardOn (partOfCase 10)) ≡ output
+written-10 : allWritten (heardOn (partOfCase 10)) ≡ wholeCaseOutput
 unfolding everyRun
 written-10 = refl
 

@@ -7,6 +7,7 @@ pub mod Refusing
 pub mod Fitting
 pub mod Hearing
 pub mod Demand1
+pub mod Demand2
 pub mod SurveyRun
 pub mod StreamRun
 pub mod StreamPieces

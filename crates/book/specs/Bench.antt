@@ -1,7 +1,8 @@
--- "Bench examples": a table of twelve, with one property over it.
+-- "Bench examples": a table of twelve, with one property over it; and the whole case of "The program survey".
 use Prim.Native.Nat.{ℕ}
 use mathlib.Core.Path.{_≡_}
 use mathlib.Core.List.{List, [], _∷_, _++_}
+use lib.ListN.{replicate}
 use lib.IntN.{ℤ, pos, negsuc}
 use Rattle.words.specs.Words.{measureWord, lastLeg}
 use Rattle.legs.specs.Positions.{positionOf}
@@ -18,7 +19,7 @@ use Rattle.frames.specs.declared.Request.{Request}
 use Rattle.frames.specs.declared.Request.the-variants.{Open, Step}
 use Rattle.frames.specs.Writing.{requestFrame}
 use Rattle.frames.specs.Answers.{answerFrame}
-use Rattle.book.specs.Survey.{surveyOf}
+use Rattle.book.specs.Survey.{surveyOf, joined}
 use Rattle.book.specs.Linearizable.{Every}
 
 -- An example: a figure and what it is; or what survey is asked from a fresh book, and what it answers.
@@ -96,3 +97,36 @@ table =
 -- Statement: the property, over the table.
 abbrev pub BenchExamples : Type 0
 BenchExamples = Every Holds table
+
+-- "Whole case": the frame of the add, and of a step.
+abbrev pub addFrame : Bytes
+addFrame =
+    0x18 ∷ 0x00 ∷ 0x01 ∷ 0x00 ∷ 0x00 ∷ 0x00 ∷ 0x00 ∷ 0x00 ∷ 0x01 ∷ 0x00 ∷ 0x00 ∷ 0x00 ∷ 0x00 ∷ 0x00
+    ∷ 0x01 ∷ 0x00 ∷ 0x02 ∷ 0x00 ∷ 0x88 ∷ 0x13 ∷ 0x00 ∷ 0x00 ∷ 0x28 ∷ 0x23 ∷ 0x6A ∷ 0xFF ∷ []
+
+abbrev pub stepFrame : Bytes
+stepFrame = 0x04 ∷ 0x00 ∷ 0x05 ∷ 0x00 ∷ 0x00 ∷ 0x00 ∷ []
+
+-- The add, "then ten times" the step.
+abbrev pub wholeCaseInput : Bytes
+wholeCaseInput = addFrame ++ joined (replicate 10 stepFrame)
+
+-- Standing 5; Claimed 1 to 5; Put 1 to 4; Granted, tries 10.
+abbrev pub wholeCaseOutput : Bytes
+wholeCaseOutput =
+    0x04 ∷ 0x00 ∷ 0x80 ∷ 0x00 ∷ 0x05 ∷ 0x00
+    ∷ 0x04 ∷ 0x00 ∷ 0x81 ∷ 0x00 ∷ 0x01 ∷ 0x00
+    ∷ 0x04 ∷ 0x00 ∷ 0x81 ∷ 0x00 ∷ 0x02 ∷ 0x00
+    ∷ 0x04 ∷ 0x00 ∷ 0x81 ∷ 0x00 ∷ 0x03 ∷ 0x00
+    ∷ 0x04 ∷ 0x00 ∷ 0x81 ∷ 0x00 ∷ 0x04 ∷ 0x00
+    ∷ 0x04 ∷ 0x00 ∷ 0x81 ∷ 0x00 ∷ 0x05 ∷ 0x00
+    ∷ 0x04 ∷ 0x00 ∷ 0x84 ∷ 0x00 ∷ 0x01 ∷ 0x00
+    ∷ 0x04 ∷ 0x00 ∷ 0x84 ∷ 0x00 ∷ 0x02 ∷ 0x00
+    ∷ 0x04 ∷ 0x00 ∷ 0x84 ∷ 0x00 ∷ 0x03 ∷ 0x00
+    ∷ 0x04 ∷ 0x00 ∷ 0x84 ∷ 0x00 ∷ 0x04 ∷ 0x00
+    ∷ 0x06 ∷ 0x00 ∷ 0x86 ∷ 0x00 ∷ 0x0A ∷ 0x00 ∷ 0x00 ∷ 0x00
+    ∷ []
+
+-- Statement: survey writes the output of the whole case for its input.
+abbrev pub WholeCase : Type 0
+WholeCase = surveyOf wholeCaseInput ≡ wholeCaseOutput

@@ -4,6 +4,7 @@ pub mod Run
 pub mod Order
 pub mod Linearizable
 pub mod Demand1
+pub mod Demand2
 pub mod Survey
 pub mod Stream
 pub mod Bench

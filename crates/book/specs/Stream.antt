@@ -84,7 +84,7 @@ sharing words tickets = record { book = words; tickets = tickets }
 abbrev pub runOn : Shared → List Bytes → Run
 runOn shared frames = runFrom shared (callsOn frames)
 
--- Statement: a stream is the list of single calls. What it consumed is whole frames, one after another; book and tickets are those that the calls on these frames leave; the calls' answers stand at the front of the output, whose later bytes and length stay; and it stopped where it must.
+-- A stream is right: what it consumed is whole frames, one after another; book and tickets are those that the calls on these frames leave; the calls' answers stand at the front of the output, whose later bytes and length stay; and it stopped where it must.
 pub record StreamRight (shared : Shared) (input out : Bytes) (result : Streamed × Words × Bytes) : Type 0 where
   pub frames : List Bytes
   pub all-whole : Every WholeFrame frames
@@ -96,6 +96,7 @@ pub record StreamRight (shared : Shared) (input out : Bytes) (result : Streamed 
   pub same-length : length (result .2) ≡ length out
   pub stop-right : StopRight (result .0 .stop) (drop (result .0 .consumed) input) (length out - result .0 .written)
 
+-- Statement: a stream is the list of single calls.
 abbrev pub StreamIsRun : Type 0
 StreamIsRun = (words : Words) (tickets : Tickets) (input out : Bytes) → length words ≡ wordsInBook → StreamRight (sharing words tickets) input out (streamOf words tickets input out)
 
@@ -107,13 +108,14 @@ Roomy input out = longestAnswer * length input ≤ 2 * length out
 abbrev pub bytesOf : Streamed × Words × Bytes → Bytes
 bytesOf result = take (result .0 .written) (result .2)
 
--- Statement: input in pieces is answered alike. Streaming one piece into any output, and then what it left with the next, gives the bytes, the book, the tickets and the stop of streaming both at once.
+-- Two streams, one after the other, are like one: in the bytes, the book, the tickets and the stop.
 pub record Alike (first second whole : Streamed × Words × Bytes) : Type 0 where
   pub bytes : bytesOf first ++ bytesOf second ≡ bytesOf whole
   pub left : sharing (second .1) (second .0 .tickets) ≡ sharing (whole .1) (whole .0 .tickets)
   pub consumed : first .0 .consumed + second .0 .consumed ≡ whole .0 .consumed
   pub stop : second .0 .stop ≡ whole .0 .stop
 
+-- Statement: input in pieces is answered alike, streaming one piece into any output and then what it left with the next, or both at once.
 abbrev pub PiecesSuffice : Type 0
 PiecesSuffice =
     (words : Words) (tickets : Tickets) (piece next out later both : Bytes)

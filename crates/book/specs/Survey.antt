@@ -85,11 +85,12 @@ abbrev pub atEnd : Bytes → Bytes
 atEnd [] = []
 atEnd (byte ∷ bytes) = answerFrame (Refused 3)
 
--- Statement: the input is its whole frames and a rest that is empty or torn, and what is written is the answers of the run of those frames, then Refused 3 if there is a rest.
+-- Survey is right on an input: its whole frames and a rest, empty or torn, and what is written the answers of the run of those frames, then Refused 3 if there is a rest.
 pub record SurveyRight (input : Bytes) : Type 0 where
   pub parts : joined (framesIn input) ++ restOf input ≡ input
   pub rest-torn : (restOf input ≡ [] → ⊥) → torn (restOf input) ≡ true
   pub answers : surveyOf input ≡ allWritten (run (callsOn (framesIn input)) .heard) ++ atEnd (restOf input)
 
+-- Statement: on every input, survey is the run of its whole frames.
 abbrev pub SurveyIsRun : Type 0
 SurveyIsRun = (input : Bytes) → SurveyRight input

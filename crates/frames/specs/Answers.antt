@@ -68,12 +68,13 @@ longestAnswer = 12
 abbrev pub written : Bytes → Bytes → ℕ × Bytes
 written out bytes = (length bytes, bytes ++ drop (length bytes) out)
 
--- Statement: an answer's frame is 4 to 12 bytes long, and its length field is the count of bytes after it.
+-- A sound frame of an answer: 4 to 12 bytes long, its length field the count of bytes after it.
 pub record FrameSound (frame : Bytes) : Type 0 where
   pub least : headBytes ≤ length frame
   pub most : length frame ≤ longestAnswer
   pub bytes : areBytes frame ≡ true
   pub length-right : lengthField frame + 2 ≡ length frame
 
+-- Statement: every answer's frame is sound.
 abbrev pub AnswerFramesSound : Type 0
 AnswerFramesSound = (answer : Answer) → FrameSound (answerFrame answer)

@@ -2,9 +2,8 @@
 ghost use mathlib.Core.Path.{_≡_};
 ghost use Prim.Native.Nat.{_+_, _<_};
 ghost use lib.ListN.{length};
-ghost use lib.Dec.{leb, ltb};
+ghost use lib.Dec.{leb};
 ghost use Rattle.words.specs.Tests.{within};
-ghost use Rattle.words.specs.Words.{wordsInBook};
 ghost use Rattle.legs.specs.Legs.{longestDistance};
 ghost use Rattle.edits.specs.Ranges.{passageInRange};
 ghost use Rattle.frames.specs.Numbers.{number16, number32, signed16};
@@ -56,14 +55,6 @@ pub fn passage_field(part: &[u8], at: usize) -> Field
     ensures { λ r. ⌜ r ≡ fieldOf (passageInRange (number16 (now (part .entry)) at)) (number16 (now (part .entry)) at) ⌝ }
 {
     field_up_to(part, at, Limits::PASSAGES - 1)
-}
-
-// The looked-at word.
-pub fn word_field(part: &[u8], at: usize) -> Field
-    requires { ⌜ at + 1 < length (now part) ⌝ }
-    ensures { λ r. ⌜ r ≡ fieldOf (ltb (number16 (now (part .entry)) at) wordsInBook) (number16 (now (part .entry)) at) ⌝ }
-{
-    field_up_to(part, at, (Limits::WORDS - 1) as u16)
 }
 
 pub fn stations_at(part: &[u8], at: usize) -> Stations

@@ -187,8 +187,8 @@ module _ {words : Words} {tickets : ℕ → Ticket} {plain : ℕ → ℕ} (i : I
     held-done : HeldWord words plain team (doneTarget (tickets team) .word) (plainValue (tickets team .phase) (doneTarget (tickets team)))
     held-done = i .held team _ _ record { stands = stands; at = tickets team .done; not-done = omega arith; claimed = below; its-word = refl; its-value = refl }
 
-    pub mark-found : readOf words (doneTarget (tickets team) .word) ≡ markOf team
-    mark-found = held-done .marked
+    pub done-marked : readOf words (doneTarget (tickets team) .word) ≡ markOf team
+    done-marked = held-done .marked
 
     leaves-one : (new : Ticket) → FitSlot (length words) new
         → ((word value : ℕ) → Holds new word value → Holds (tickets team) word value × (word ≢ doneTarget (tickets team) .word))

@@ -20,7 +20,7 @@ use Rattle.tickets.specs.Targets.{AllMatch, PutInto}
 use Rattle.tickets.specs.Invariant.{withSlot, plainValue, FitTicket, Invariant, Leaves, StepKept, claimed-one, claimed-last, waiting, found-other, stale-at-once, put-one, put-last, returned-one, returned-last, StepKeeps, MarkFound, LengthKept}
 use Rattle.tickets.proofs.Slots.{table-slots}
 use Rattle.tickets.proofs.TargetLists.{length-targets, target-listed, claimable-at, match-at, at-match, put-at}
-use Rattle.tickets.proofs.Keeping.{claimTarget, doneTarget, claimedWords, doneWords, claiming-counts, putting-counts, giving-counts, standing-fit, fit-claiming, fit-putting, fit-giving, nothing-held, holds-at, same-held, plain-quoted, claim-keeps, mark-found, done-keeps, last-keeps}
+use Rattle.tickets.proofs.Keeping.{claimTarget, doneTarget, claimedWords, doneWords, claiming-counts, putting-counts, giving-counts, standing-fit, fit-claiming, fit-putting, fit-giving, nothing-held, holds-at, same-held, plain-quoted, claim-keeps, done-marked, done-keeps, last-keeps}
 use Rattle.tickets.proofs.Outcomes.{Outcome, claims-one, claims-last, waits, differs-later, differs-first, puts-one, puts-last, returns-one, returns-last, outcome}
 
 -- The swap of a ticket in a phase.
@@ -152,7 +152,7 @@ module _ (words : Words) (tickets : ℕ → Ticket) (plain : ℕ → ℕ) (team 
         (swap-is : swapIn phase words (tickets team) team ≡ swapOf words (doneTarget (tickets team) .word) (markOf team) (plainValue phase (doneTarget (tickets team)))) where
       words-done : stepOf words (tickets team) team .1 ≡ doneWords words (tickets team)
       words-done = words-in phase words (tickets team) team is ∙ ap (λ swap. swap .words) swap-is
-          ∙ swap-stores words _ (markOf team) _ (mark-found i team fit (ap hasTicket is ∙ stands) below most)
+          ∙ swap-stores words _ (markOf team) _ (done-marked i team fit (ap hasTicket is ∙ stands) below most)
           ∙ ap (λ phase. set words (doneTarget (tickets team) .word) (plainValue phase (doneTarget (tickets team)))) (sym is)
 
       one-done : FitTicket (length words) (advanced (tickets team) phase (tickets team .claimed) (tickets team .done + 1))
@@ -213,14 +213,14 @@ table-keeps words table team {plain} slot left =
     subst (λ slots. Invariant (stepOf words (ticketOf table team) team .1) slots plain)
     (ap (withSlot (ticketOf table) team) (sym (ap (λ step. step .ticket) (left .is))) ∙ sym (table-slots table team _ slot)) (left .keeps)
 
-pub marks-found : MarkFound
+pub mark-found : MarkFound
 unfolding swapTried
-marks-found words tickets plain team i (inl putting) =
+mark-found words tickets plain team i (inl putting) =
     let fit = standing-fit (length words) (tickets team) (i .fit team) (ap hasTicket putting) in
     let below = putting-counts (tickets team) fit putting in
     let all = fit .all-claimed putting in
-    subst (λ phase. swapIn phase words (tickets team) team .found ≡ swapTriedIn phase (tickets team) team .expected) (sym putting) (mark-found i team fit (ap hasTicket putting) (omega arith) (omega arith))
-marks-found words tickets plain team i (inr giving) =
+    subst (λ phase. swapIn phase words (tickets team) team .found ≡ swapTriedIn phase (tickets team) team .expected) (sym putting) (done-marked i team fit (ap hasTicket putting) (omega arith) (omega arith))
+mark-found words tickets plain team i (inr giving) =
     let fit = standing-fit (length words) (tickets team) (i .fit team) (ap hasTicket giving) in
     let (below, most) = giving-counts (tickets team) fit giving in
-    subst (λ phase. swapIn phase words (tickets team) team .found ≡ swapTriedIn phase (tickets team) team .expected) (sym giving) (mark-found i team fit (ap hasTicket giving) below (omega arith))
+    subst (λ phase. swapIn phase words (tickets team) team .found ≡ swapTriedIn phase (tickets team) team .expected) (sym giving) (done-marked i team fit (ap hasTicket giving) below (omega arith))
