@@ -233,7 +233,7 @@ fn reading_is_the_inverse_of_writing() {
 
 #[test]
 fn the_lent_cases_are_as_stored() {
-    lent::check(include_str!("../lent.txt")).unwrap();
+    lent::check(include_str!("../../crates/lent/stdout")).unwrap();
 }
 
 #[test]

@@ -7,6 +7,10 @@
 //! - `call LENGTH FILL : FRAME`: with an output of that many bytes FILL. Gives
 //!   `= returns N`, `= output BYTES`, and each word and ticket that changed.
 //! - `read PLACE MEASURE`: gives `= leg P FROM TO DISTANCE COMPASS CLINO` or `= no leg`.
+//!
+//! The program `crates/lent` makes the same calls on the library and writes the same
+//! text. A ticket there has room for six targets: it shows the first n and those behind
+//! them that are not three zeros, so a text names no other.
 
 use crate::frames::hex;
 use crate::layout::{reading, Word};

@@ -72,7 +72,7 @@ fn the_stored_files_are_checked() {
 #[test]
 fn a_lent_text_is_checked() {
     let file = folder("lent.txt");
-    let text = include_str!("../lent.txt").replace("= returns 12", "= returns 6");
+    let text = include_str!("../../crates/lent/stdout").replace("= returns 12", "= returns 6");
     std::fs::write(&file, text).expect("written");
     let output = tests(&["lent", file.to_str().expect("a readable name"), "--check"]);
     assert!(!output.status.success() && said(&output).contains("model: = returns 12"));
