@@ -1,9 +1,11 @@
 // The program: frames from standard input, answers to standard output.
 ghost use mathlib.Core.Path.{_≡_};
-ghost use Prim.Native.Nat.{_+_, _≤_};
-ghost use lib.ListN.{length};
-ghost use Rattle.words.specs.Words.{wordsInBook};
-ghost use Rattle.frames.specs.Answers.{longestAnswer};
+ghost use Prim.Native.Nat.{_+_, _-_, _≤_};
+ghost use lib.ListN.{length, take};
+ghost use Rattle.frames.specs.declared.Answer.the-variants.{Refused};
+ghost use Rattle.frames.specs.Answers.{answerFrame, longestAnswer, written};
+ghost use Rattle.book.specs.Stream.{streamOf};
+ghost use Rattle.survey.specs.Program.{goesOn, shifted, servedBy};
 use book::Stop;
 use book::Streamed;
 use frames::Answer;
@@ -22,18 +24,27 @@ impl Buffers {
     const OUTPUT: usize = 3 * Buffers::INPUT + Answer::LONGEST;
 }
 
-// What is kept from one read to the next: the tickets, how many bytes of a frame not yet whole, and whether to go on.
-struct Kept {
+// What came of one read: the tickets, how many bytes of a frame not yet whole stand at the front, how many bytes to
+// write, and whether to go on.
+struct Served {
     tickets: Tickets,
     have: usize,
+    written: usize,
     on: bool,
+}
+
+fn torn_answer(out: &mut [u8]) -> usize
+    requires { ⌜ longestAnswer ≤ length (now out) ⌝ }
+    ensures { λ r. ⌜ ((r, now (out .exit)) ≡ written (now (out .entry)) (answerFrame (Refused 3))) × (r ≤ longestAnswer) ⌝ }
+{
+    frames::writing::write_answer(out, Answer::Refused(Refusal::TORN))
 }
 
 // A torn last frame, or a length field above 62.
 fn refuse_torn(out: &mut [u8])
     requires { ⌜ longestAnswer ≤ length (now out) ⌝ }
 {
-    let count = frames::writing::write_answer(out, Answer::Refused(Refusal::TORN));
+    let count = torn_answer(out);
     write_front(out, count);
 }
 
@@ -43,10 +54,10 @@ fn write_front(out: &[u8], count: usize)
     io::write_all(STDOUT_FILENO, &out[0..count]);
 }
 
-// Reads what there is behind the first `have` bytes; how many came.
+// Reads what there is behind the first `have` bytes, which stay; how many came.
 fn read_more(buffer: &mut [u8], have: usize) -> usize
     requires { ⌜ have ≤ length (now buffer) ⌝ }
-    ensures { λ r. ⌜ have + r ≤ length (now (buffer .entry)) ⌝ }
+    ensures { λ r. ⌜ (have + r ≤ length (now (buffer .entry))) × (take have (now (buffer .exit)) ≡ take have (now (buffer .entry))) ⌝ }
 {
     let rest = &mut buffer[have..];
     let got = libc::read(STDIN_FILENO, rest);
@@ -56,7 +67,7 @@ fn read_more(buffer: &mut [u8], have: usize) -> usize
 // Moves the bytes from `from` up to `have` to the front; how many.
 fn shift(buffer: &mut [u8], from: usize, have: usize) -> usize
     requires { ⌜ (from ≤ have) × (have ≤ length (now buffer)) ⌝ }
-    ensures { λ r. ⌜ r ≤ have ⌝ }
+    ensures { λ r. ⌜ (r ≡ have - from) × (now (buffer .exit) ≡ shifted (now (buffer .entry)) from have) ⌝ }
 {
     let count = have - from;
     let mut k: usize = 0;
@@ -75,17 +86,52 @@ fn stream_front(
     out: &mut [u8],
 ) -> Streamed
     requires { ⌜ have ≤ length (now buffer) ⌝ }
-    ensures { λ r. ⌜ (r .consumed ≤ have) × (r .written ≤ length (now (out .entry))) ⌝ }
+    ensures bounds { λ r. ⌜ (r .consumed ≤ have) × (r .written ≤ length (now (out .entry))) ⌝ }
+    ensures all { λ r. ⌜ (r, now (book .exit), now (out .exit)) ≡ streamOf (now (book .entry)) tickets (take have (now (buffer .entry))) (now (out .entry)) ⌝ }
 {
     book::stream(book, tickets, &buffer[0..have], out)
 }
 
-fn goes_on(stop: Stop) -> bool {
+fn goes_on(stop: Stop) -> bool
+    ensures { λ r. ⌜ r ≡ goesOn stop ⌝ }
+{
     match stop {
         Stop::MoreInput => true,
         Stop::OutputFull => true,
         Stop::BadLength => false,
         Stop::NoBook => false,
+    }
+}
+
+// All whole frames among the first `have` bytes answered, and what is left of them moved to the front.
+fn serve_front(
+    book: &mut [u64],
+    tickets: Tickets,
+    buffer: &mut [u8],
+    have: usize,
+    out: &mut [u8],
+) -> Served
+    requires { ⌜ have ≤ length (now buffer) ⌝ }
+    ensures bounds { λ r. ⌜ (r .have ≤ have) × (r .written ≤ length (now (out .entry))) ⌝ }
+    ensures all { λ r. ⌜ (r, now (book .exit), now (buffer .exit), now (out .exit)) ≡ servedBy (now (book .entry)) tickets (now (buffer .entry)) have (now (out .entry)) ⌝ }
+{
+    let answered = stream_front(book, tickets, buffer, have, out);
+    let next = answered.tickets;
+    let stop = answered.stop;
+    if !goes_on(stop) {
+        return Served {
+            tickets: next,
+            have: 0,
+            written: answered.written,
+            on: false,
+        };
+    }
+    let left = shift(buffer, answered.consumed, have);
+    Served {
+        tickets: next,
+        have: left,
+        written: answered.written,
+        on: true,
     }
 }
 
@@ -96,7 +142,7 @@ fn serve_some(
     buffer: &mut [u8],
     have: usize,
     out: &mut [u8],
-) -> Kept
+) -> Served
     requires { ⌜ (have ≤ length (now buffer)) × (longestAnswer ≤ length (now out)) ⌝ }
     ensures { λ r. ⌜ r .have ≤ length (now (buffer .entry)) ⌝ }
 {
@@ -105,32 +151,20 @@ fn serve_some(
         if 0 < have {
             refuse_torn(out);
         }
-        return Kept {
+        return Served {
             tickets: tickets,
             have: 0,
+            written: 0,
             on: false,
         };
     }
-    let all = have + got;
-    let answered = stream_front(book, tickets, buffer, all, out);
-    let next = answered.tickets;
-    let consumed = answered.consumed;
-    let stop = answered.stop;
-    write_front(out, answered.written);
-    if !goes_on(stop) {
+    let served = serve_front(book, tickets, buffer, have + got, out);
+    write_front(out, served.written);
+    if !served.on {
         refuse_torn(out);
-        return Kept {
-            tickets: next,
-            have: 0,
-            on: false,
-        };
+        return served;
     }
-    let left = shift(buffer, consumed, all);
-    Kept {
-        tickets: next,
-        have: left,
-        on: true,
-    }
+    served
 }
 
 fn main() {
@@ -142,11 +176,11 @@ fn main() {
     let mut turns: u64 = 18446744073709551615;
     while 0 < turns {
         turns -= 1;
-        let kept = serve_some(&mut book, tickets, &mut buffer, have, &mut out);
-        if !kept.on {
+        let served = serve_some(&mut book, tickets, &mut buffer, have, &mut out);
+        if !served.on {
             return;
         }
-        tickets = kept.tickets;
-        have = kept.have;
+        tickets = served.tickets;
+        have = served.have;
     }
 }

@@ -1,0 +1,65 @@
+-- `survey::serve_front` meets its contract: it stops, or the rest is at the front.
+use native.Mathlib.Omega.{arith}
+use mathlib.Core.Path.{sym, _∙_}
+use denote.Ref.{now}
+use borrow.Author.Tests.{not-true, not-false}
+use Rattle.survey.proofs.Serving.{serves-no-more, serves-on}
+use borrow.Author.Needs.{needs}
+use Rattle.survey.proofs.serve_front.Statement.{statement}
+use Rattle.survey.proofs.serve_front.Tie as tie
+
+stream-front-requires : tie.Need-stream-front-requires
+stream-front-requires c κs = search needs
+
+goes-on-requires : tie.Need-goes-on-requires
+goes-on-requires c κs = search needs
+
+same-length : tie.Need-same-length
+same-length c = search needs
+
+same-length-2 : tie.Need-same-length-2
+same-length-2 c = search needs
+
+same-length-3 : tie.Need-same-length-3
+same-length-3 c = search needs
+
+returns : tie.Need-returns
+returns c =
+    let args = c .before .before .before .before .before .before .before .before .before .before .before .before .before .before .args in
+    let answered = c .before .before .before .before .before .before .before .stream-front in
+    ((omega arith, answered .ensures .0 .1), serves-no-more (now (args .book)) (args .tickets) (now (args .buffer)) (args .have) (now (args .out)) _ _ _ (answered .ensures .1) (sym (c .before .goes-on .ensures) ∙ not-true _ (c .if1 .taken)))
+
+shift-requires : tie.Need-shift-requires
+shift-requires c κs = search needs
+
+same-length-4 : tie.Need-same-length-4
+same-length-4 c = search needs
+
+same-length-5 : tie.Need-same-length-5
+same-length-5 c = search needs
+
+same-length-6 : tie.Need-same-length-6
+same-length-6 c = search needs
+
+returns-2 : tie.Need-returns-2
+returns-2 c =
+    let args = c .before .before .before .before .before .before .before .before .before .before .before .before .before .before .before .before .before .before .args in
+    let answered = c .before .before .before .before .before .before .before .before .before .before .before .stream-front in
+    let shifts = c .before .before .shift .ensures in
+    ((search needs, answered .ensures .0 .1), serves-on (now (args .book)) (args .tickets) (now (args .buffer)) (args .have) (now (args .out)) _ _ _ (answered .ensures .1) _ _ (shifts .0) (shifts .1) (sym (c .before .before .before .before .before .goes-on .ensures) ∙ not-false _ (c .before .before .before .before .if1 .left)))
+
+pub serve-front-spec : {M : Type 1} → statement M
+serve-front-spec =
+    tie.close
+    (tie.spec
+    stream-front-requires
+    goes-on-requires
+    same-length
+    same-length-2
+    same-length-3
+    returns
+    shift-requires
+    same-length-4
+    same-length-5
+    same-length-6
+    returns-2)
