@@ -1,5 +1,5 @@
 -- Demand 1: every frame gets one answer from the list, for every book and ticket table; a refusal changes no word and no ticket.
-use Prim.Native.Nat.{ℕ, _^_, _≤_, _<_}
+use Prim.Native.Nat.{ℕ, _≤_, _<_}
 use mathlib.Core.Path.{_≡_}
 use mathlib.Core.Bool.{true}
 use mathlib.Core.Option.{none, some}

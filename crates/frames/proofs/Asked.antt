@@ -4,119 +4,104 @@ use mathlib.Core.Path.{_≡_, refl, ap, subst, _∙_}
 use mathlib.Core.List.{[], _∷_}
 use mathlib.Core.Bool.{Bool, true, false, cond}
 use native.Mathlib.Omega.{arith}
-use borrow.Author.Tests.{ltb-true, leb-true, le-leb, lt-ltb, le-ltb}
+use borrow.Author.Tests.{ltb-true, le-leb, le-ltb}
 use lib.Dec.{eqb, leb, ltb}
 use lib.IntN.{ℤ, pos, negsuc}
 use Rattle.words.specs.Tests.{allHold, someHolds}
-use Rattle.words.specs.Words.{lastLeg, passageCount}
 use Rattle.words.proofs.Tests.{split, join}
 use Rattle.legs.specs.declared.Stations.{Stations}
 use Rattle.legs.specs.declared.Measure.{Measure}
-use Rattle.legs.specs.Legs.{lastStation, steepestClino, clinoInRange, measureInRange}
-use Rattle.legs.proofs.Ranges.{measure-fits}
+use Rattle.legs.specs.Legs.{lastStation}
 use Rattle.edits.specs.declared.Edit.{Edit}
 use Rattle.edits.specs.declared.Edit.the-variants as Edit
-use Rattle.edits.specs.Ranges.{legInRange, editInRange, stationsInRange, editStationsInRange}
+use Rattle.edits.specs.Ranges.{stationsInRange, editStationsInRange}
 use Rattle.frames.specs.declared.Request.{Request}
 use Rattle.frames.specs.declared.Request.the-variants.{Open, Step, Look}
 use Rattle.frames.specs.Numbers.{Bytes, areBytes, number16, signedOf}
 use Rattle.frames.specs.Requests.{kindField, partAfterKind, teamIn, addKind, correctKind, strikeKind, stepKind, lookKind, stationsAt, measureAt, addIn, correctIn, strikeIn, moveIn, editOfKind, requestOfKind, requestIn, StationsFit}
 use Rattle.frames.specs.Fields.{headerOf}
-use Rattle.frames.specs.Writing.{bitsOf, fields16, measureBytes, requestFrame, RequestsReadBack, RequestFramesWhole}
+use Rattle.frames.specs.Writing.{bitsOf, fields16, measureBytes, editNumbers, editMeasures, signedFits, measureFits, numbersFit, measuresFit, requestFrame, RequestsReadBack, RequestFramesWhole}
 use Rattle.frames.proofs.Bytes.{back16, back32, bytes-after, numbers-fit}
-use Rattle.frames.proofs.Answered.{taken-fits}
-use Rattle.frames.proofs.Decoded.{add-fits, correct-fits, strike-fits, move-fits, struck, moved}
 
--- A signed number in range has 16 bits, and is that of its bits.
-bits-fit : (clino : ℤ) → clinoInRange clino ≡ true → bitsOf clino < 65536
-bits-fit (pos n) h = let l : n ≤ steepestClino = leb-true _ _ h in omega arith
+-- A signed number that fits has 16 bits, and is that of its bits.
+bits-fit : (clino : ℤ) → signedFits clino ≡ true → bitsOf clino < 65536
+bits-fit (pos n) h = let l = ltb-true n 32768 h in omega arith
 bits-fit (negsuc n) h = omega arith
 
-bits-back : (clino : ℤ) → clinoInRange clino ≡ true → signedOf (bitsOf clino) ≡ clino
-bits-back (pos n) h = let l : n ≤ steepestClino = leb-true _ _ h in simp (lt-ltb n 32768 (omega arith))
+bits-back : (clino : ℤ) → signedFits clino ≡ true → signedOf (bitsOf clino) ≡ clino
+bits-back (pos n) h = simp h
 bits-back (negsuc n) h =
-    let l : n + 1 ≤ steepestClino = leb-true _ _ h in
+    let l = ltb-true n 32768 h in
     simp (le-ltb (65535 - n) 32768 (omega arith)) (ap negsuc (omega arith))
 
--- A measure and stations, read from their bytes.
-measure-back : (measure : Measure) → measureInRange measure ≡ true → measureAt (measureBytes measure) 0 ≡ measure
+-- A number, stations and a measure, read from their bytes.
+number-back : (number : ℕ) → ltb number 65536 ≡ true → number % 256 + 256 * (number / 256 % 256) ≡ number
+number-back number h = back16 number (ltb-true number 65536 h)
+
+stations-back : (stations : Stations) → ltb (stations .from) 65536 ≡ true → ltb (stations .to) 65536 ≡ true → stationsAt (fields16 (stations .from ∷ stations .to ∷ [])) 0 ≡ stations
+stations-back stations from to = λ i. record { from = number-back (stations .from) from i; to = number-back (stations .to) to i }
+
+measure-back : (measure : Measure) → measureFits measure ≡ true → measureAt (measureBytes measure) 0 ≡ measure
 measure-back measure h =
-    let fits = measure-fits measure h in
-    let distance = back32 (measure .distance) (omega (arith, fits .distance-most)) in
-    let compass = back16 (measure .compass) (omega (arith, fits .compass-fits)) in
-    let clino = ap signedOf (back16 (bitsOf (measure .clino)) (bits-fit (measure .clino) (fits .clino-fits))) ∙ bits-back (measure .clino) (fits .clino-fits) in
-    λ i. record { distance = distance i; compass = compass i; clino = clino i }
-
-stations-back : (stations : Stations) → stationsInRange stations ≡ true → stationsAt (fields16 (stations .from ∷ stations .to ∷ [])) 0 ≡ stations
-stations-back stations h =
-    let (a, (b, u)) = split (leb (stations .from) lastStation ∷ leb (stations .to) lastStation ∷ []) h in
-    let from-back = back16 (stations .from) (omega (arith, leb-true (stations .from) lastStation a)) in
-    let to-back = back16 (stations .to) (omega (arith, leb-true (stations .to) lastStation b)) in
-    λ i. record { from = from-back i; to = to-back i }
-
--- Each field in range has 16 bits.
-passage-back : (passage : ℕ) → ltb passage passageCount ≡ true → passage % 256 + 256 * (passage / 256 % 256) ≡ passage
-passage-back passage h = back16 passage (omega (arith, ltb-true passage passageCount h))
-
-up-to-back : (number most : ℕ) → most < 65536 → leb number most ≡ true → number % 256 + 256 * (number / 256 % 256) ≡ number
-up-to-back number most few h = back16 number (omega (arith, leb-true number most h))
-
-leg-back : (leg : ℕ) → legInRange leg ≡ true → leg % 256 + 256 * (leg / 256 % 256) ≡ leg
-leg-back leg h = let (a, (b, u)) = split (leb 1 leg ∷ leb leg lastLeg ∷ []) h in back16 leg (omega (arith, leb-true leg lastLeg b))
+    let (distance, (compass, (clino, u))) = split (ltb (measure .distance) 4294967296 ∷ ltb (measure .compass) 65536 ∷ signedFits (measure .clino) ∷ []) h in
+    let distance-back = back32 (measure .distance) (ltb-true (measure .distance) 4294967296 distance) in
+    let clino-back = ap signedOf (back16 (bitsOf (measure .clino)) (bits-fit (measure .clino) clino)) ∙ bits-back (measure .clino) clino in
+    λ i. record { distance = distance-back i; compass = number-back (measure .compass) compass i; clino = clino-back i }
 
 pub requests-read-back : RequestsReadBack
 unfolding requestIn requestOfKind editOfKind requestFrame addIn correctIn strikeIn moveIn
 requests-read-back (Open team (Edit.Add e)) h =
-    let (t, (r, (s, u))) = split (ltb team 65536 ∷ editInRange (Edit.Add e) ∷ editStationsInRange (Edit.Add e) ∷ []) h in
-    let fits = add-fits e r in
-    λ i. Open (back16 team (ltb-true _ _ t) i) (Edit.Add (record {
-      passage = passage-back (e .passage) (fits .passage) i;
-      leg = leg-back (e .leg) (fits .leg) i;
-      newest = up-to-back (e .newest) lastLeg (omega arith) (fits .newest) i;
-      count = up-to-back (e .count) (lastLeg - 1) (omega arith) (fits .count) i;
-      stations = stations-back (e .stations) s i;
-      measure = measure-back (e .measure) (fits .measure) i;
+    let (n, (m, u)) = split (allHold (numbersFit (team ∷ editNumbers (Edit.Add e))) ∷ allHold (measuresFit (editMeasures (Edit.Add e))) ∷ []) h in
+    let (t, (passage, (leg, (newest, (count, (from, (to, v))))))) = split (numbersFit (team ∷ editNumbers (Edit.Add e))) n in
+    let (measure, w) = split (measuresFit (editMeasures (Edit.Add e))) m in
+    λ i. Open (number-back team t i) (Edit.Add (record {
+      passage = number-back (e .passage) passage i;
+      leg = number-back (e .leg) leg i;
+      newest = number-back (e .newest) newest i;
+      count = number-back (e .count) count i;
+      stations = stations-back (e .stations) from to i;
+      measure = measure-back (e .measure) measure i;
     }))
 requests-read-back (Open team (Edit.Correct e)) h =
-    let (t, (r, (s, u))) = split (ltb team 65536 ∷ editInRange (Edit.Correct e) ∷ editStationsInRange (Edit.Correct e) ∷ []) h in
-    let fits = correct-fits e r in
-    λ i. Open (back16 team (ltb-true _ _ t) i) (Edit.Correct (record {
-      passage = passage-back (e .passage) (fits .passage) i;
-      leg = leg-back (e .leg) (fits .leg) i;
-      stations = stations-back (e .stations) s i;
-      old = measure-back (e .old) (fits .old) i;
-      new = measure-back (e .new) (fits .new) i;
+    let (n, (m, u)) = split (allHold (numbersFit (team ∷ editNumbers (Edit.Correct e))) ∷ allHold (measuresFit (editMeasures (Edit.Correct e))) ∷ []) h in
+    let (t, (passage, (leg, (from, (to, v))))) = split (numbersFit (team ∷ editNumbers (Edit.Correct e))) n in
+    let (old, (new, w)) = split (measuresFit (editMeasures (Edit.Correct e))) m in
+    λ i. Open (number-back team t i) (Edit.Correct (record {
+      passage = number-back (e .passage) passage i;
+      leg = number-back (e .leg) leg i;
+      stations = stations-back (e .stations) from to i;
+      old = measure-back (e .old) old i;
+      new = measure-back (e .new) new i;
     }))
 requests-read-back (Open team (Edit.Strike e)) h =
-    let (t, (r, (s, u))) = split (ltb team 65536 ∷ editInRange (Edit.Strike e) ∷ editStationsInRange (Edit.Strike e) ∷ []) h in
-    let fits = strike-fits e r in
-    let taken = taken-fits (struck e) (fits .taken) in
-    λ i. Open (back16 team (ltb-true _ _ t) i) (Edit.Strike (record {
-      passage = passage-back (e .passage) (fits .passage) i;
-      newer = up-to-back (e .newer) lastLeg (omega arith) (taken .newer) i;
-      leg = leg-back (e .leg) (taken .leg) i;
-      older = up-to-back (e .older) lastLeg (omega arith) (taken .older) i;
-      count = leg-back (e .count) (taken .count) i;
-      stations = stations-back (e .stations) s i;
-      measure = measure-back (e .measure) (fits .measure) i;
+    let (n, (m, u)) = split (allHold (numbersFit (team ∷ editNumbers (Edit.Strike e))) ∷ allHold (measuresFit (editMeasures (Edit.Strike e))) ∷ []) h in
+    let (t, (passage, (newer, (leg, (older, (count, (from, (to, v)))))))) = split (numbersFit (team ∷ editNumbers (Edit.Strike e))) n in
+    let (measure, w) = split (measuresFit (editMeasures (Edit.Strike e))) m in
+    λ i. Open (number-back team t i) (Edit.Strike (record {
+      passage = number-back (e .passage) passage i;
+      newer = number-back (e .newer) newer i;
+      leg = number-back (e .leg) leg i;
+      older = number-back (e .older) older i;
+      count = number-back (e .count) count i;
+      stations = stations-back (e .stations) from to i;
+      measure = measure-back (e .measure) measure i;
     }))
 requests-read-back (Open team (Edit.Move e)) h =
-    let (t, (r, (s, u))) = split (ltb team 65536 ∷ editInRange (Edit.Move e) ∷ editStationsInRange (Edit.Move e) ∷ []) h in
-    let fits = move-fits e r in
-    let taken = taken-fits (moved e) (fits .taken) in
-    λ i. Open (back16 team (ltb-true _ _ t) i) (Edit.Move (record {
-      passage = passage-back (e .passage) (fits .passage) i;
-      into = passage-back (e .into) (fits .into) i;
-      newer = up-to-back (e .newer) lastLeg (omega arith) (taken .newer) i;
-      leg = leg-back (e .leg) (taken .leg) i;
-      older = up-to-back (e .older) lastLeg (omega arith) (taken .older) i;
-      count = leg-back (e .count) (taken .count) i;
-      «into_newest» = up-to-back (e .«into_newest») lastLeg (omega arith) (fits .newest) i;
-      «into_count» = up-to-back (e .«into_count») (lastLeg - 1) (omega arith) (fits .count) i;
-      stations = stations-back (e .stations) s i;
+    let (n, (m, u)) = split (allHold (numbersFit (team ∷ editNumbers (Edit.Move e))) ∷ allHold (measuresFit (editMeasures (Edit.Move e))) ∷ []) h in
+    let (t, (passage, (into, (newer, (leg, (older, (count, (into-newest, (into-count, (from, (to, v))))))))))) = split (numbersFit (team ∷ editNumbers (Edit.Move e))) n in
+    λ i. Open (number-back team t i) (Edit.Move (record {
+      passage = number-back (e .passage) passage i;
+      into = number-back (e .into) into i;
+      newer = number-back (e .newer) newer i;
+      leg = number-back (e .leg) leg i;
+      older = number-back (e .older) older i;
+      count = number-back (e .count) count i;
+      «into_newest» = number-back (e .«into_newest») into-newest i;
+      «into_count» = number-back (e .«into_count») into-count i;
+      stations = stations-back (e .stations) from to i;
     }))
-requests-read-back (Step team) h = ap Step (back16 team (ltb-true _ _ h))
-requests-read-back (Look word) h = ap Look (back16 word (ltb-true _ _ h))
+requests-read-back (Step team) h = ap Step (number-back team h)
+requests-read-back (Look word) h = ap Look (number-back word h)
 
 pub request-frames-whole : RequestFramesWhole
 unfolding headerOf requestFrame someHolds allHold

@@ -9,7 +9,6 @@ use Rattle.words.specs.Tests.{allHold}
 use Rattle.legs.specs.declared.Measure.{Measure}
 use Rattle.edits.specs.declared.Edit.{Edit}
 use Rattle.edits.specs.declared.Edit.the-variants.{Add, Correct, Strike, Move}
-use Rattle.edits.specs.Ranges.{editInRange, editStationsInRange}
 use Rattle.frames.specs.declared.Request.{Request}
 use Rattle.frames.specs.declared.Request.the-variants.{Open, Step, Look}
 use Rattle.frames.specs.declared.Header.the-variants.{Kind}
@@ -32,6 +31,10 @@ fields16 (field ∷ fields) = bytes16 field ++ fields16 fields
 abbrev pub measureBytes : Measure → Bytes
 measureBytes measure = bytes32 (measure .distance) ++ fields16 (measure .compass ∷ bitsOf (measure .clino) ∷ [])
 
+abbrev pub measuresBytes : List Measure → Bytes
+measuresBytes [] = []
+measuresBytes (measure ∷ measures) = measureBytes measure ++ measuresBytes measures
+
 -- The kind of what is asked for.
 abbrev pub editKind : Edit → ℕ
 editKind (Add e) = addKind
@@ -44,12 +47,23 @@ requestKind (Open team edit) = editKind edit
 requestKind (Step team) = stepKind
 requestKind (Look word) = lookKind
 
+-- An edit's numbers of 16 bits, in the frame's order.
+abbrev pub editNumbers : Edit → List ℕ
+editNumbers (Add e) = e .passage ∷ e .leg ∷ e .newest ∷ e .count ∷ e .stations .from ∷ e .stations .to ∷ []
+editNumbers (Correct e) = e .passage ∷ e .leg ∷ e .stations .from ∷ e .stations .to ∷ []
+editNumbers (Strike e) = e .passage ∷ e .newer ∷ e .leg ∷ e .older ∷ e .count ∷ e .stations .from ∷ e .stations .to ∷ []
+editNumbers (Move e) = e .passage ∷ e .into ∷ e .newer ∷ e .leg ∷ e .older ∷ e .count ∷ e .«into_newest» ∷ e .«into_count» ∷ e .stations .from ∷ e .stations .to ∷ []
+
+-- Its measures, which come after them.
+abbrev pub editMeasures : Edit → List Measure
+editMeasures (Add e) = e .measure ∷ []
+editMeasures (Correct e) = e .old ∷ e .new ∷ []
+editMeasures (Strike e) = e .measure ∷ []
+editMeasures (Move e) = []
+
 -- Its fields.
 abbrev pub editFields : ℕ → Edit → Bytes
-editFields team (Add e) = fields16 (team ∷ e .passage ∷ e .leg ∷ e .newest ∷ e .count ∷ e .stations .from ∷ e .stations .to ∷ []) ++ measureBytes (e .measure)
-editFields team (Correct e) = fields16 (team ∷ e .passage ∷ e .leg ∷ e .stations .from ∷ e .stations .to ∷ []) ++ measureBytes (e .old) ++ measureBytes (e .new)
-editFields team (Strike e) = fields16 (team ∷ e .passage ∷ e .newer ∷ e .leg ∷ e .older ∷ e .count ∷ e .stations .from ∷ e .stations .to ∷ []) ++ measureBytes (e .measure)
-editFields team (Move e) = fields16 (team ∷ e .passage ∷ e .into ∷ e .newer ∷ e .leg ∷ e .older ∷ e .count ∷ e .«into_newest» ∷ e .«into_count» ∷ e .stations .from ∷ e .stations .to ∷ [])
+editFields team edit = fields16 (team ∷ editNumbers edit) ++ measuresBytes (editMeasures edit)
 
 abbrev pub requestFields : Request → Bytes
 requestFields (Open team edit) = editFields team edit
@@ -59,9 +73,26 @@ requestFields (Look word) = bytes16 word
 unfoldable pub requestFrame : Request → Bytes
 requestFrame request = frameOf (requestKind request) (requestFields request)
 
--- Every field has room in its bits: an edit in range, stations, a team and a word of 16 bits.
+-- A signed number of 16 bits.
+abbrev pub signedFits : ℤ → Bool
+signedFits (pos n) = ltb n 32768
+signedFits (negsuc n) = ltb n 32768
+
+-- A distance of 32 bits, a compass and a clino of 16.
+abbrev pub measureFits : Measure → Bool
+measureFits measure = allHold (ltb (measure .distance) 4294967296 ∷ ltb (measure .compass) 65536 ∷ signedFits (measure .clino) ∷ [])
+
+abbrev pub numbersFit : List ℕ → List Bool
+numbersFit [] = []
+numbersFit (number ∷ numbers) = ltb number 65536 ∷ numbersFit numbers
+
+abbrev pub measuresFit : List Measure → List Bool
+measuresFit [] = []
+measuresFit (measure ∷ measures) = measureFits measure ∷ measuresFit measures
+
+-- Every field has room in its bits; it may be out of range.
 abbrev pub requestFits : Request → Bool
-requestFits (Open team edit) = allHold (ltb team 65536 ∷ editInRange edit ∷ editStationsInRange edit ∷ [])
+requestFits (Open team edit) = allHold (allHold (numbersFit (team ∷ editNumbers edit)) ∷ allHold (measuresFit (editMeasures edit)) ∷ [])
 requestFits (Step team) = ltb team 65536
 requestFits (Look word) = ltb word 65536
 
