@@ -90,7 +90,7 @@ module _ (words : Words) (tickets : Tickets) (frame out : Bytes) where
   answered-by table (some refusal) given among = refused-by table refusal given (among .0) (among .1)
 
 pub demand1 : Demand1
-demand1 words tickets frame out table are-bytes = answered-by words tickets frame out table (refusalOf words tickets frame out) refl (refusal-among words tickets frame out)
+demand1 words tickets frame out table = answered-by words tickets frame out table (refusalOf words tickets frame out) refl (refusal-among words tickets frame out)
 
 -- Of every other team than a request's the ticket stays.
 others-keep : (words : Words) (tickets : Tickets) (request : Request) (team : ℕ) → (IsOf team request → ⊥) → ticketOf (requestDone words tickets request .tickets) team ≡ ticketOf tickets team

@@ -112,7 +112,7 @@ calls-keep (framed frame out ∷ calls) bytes shared n table good =
     calls-keep calls (bytes .1) (leftBy shared (framed frame out)) _ (tables-stay (shared .book) (shared .tickets) frame out table) one-kept
   where
     one-kept : Good (leftBy shared (framed frame out)) (hearAnswer n (framed frame out) (answerHeard (heardOf shared (framed frame out))))
-    one-kept = subst (λ answer. Good (leftBy shared (framed frame out)) (hearAnswer n (framed frame out) answer)) (sym (answers-heard shared frame out table (bytes .0)))
+    one-kept = subst (λ answer. Good (leftBy shared (framed frame out)) (hearAnswer n (framed frame out) answer)) (sym (answers-heard shared frame out table))
         (left-kept shared n table good frame out (bytes .0))
 
 run-good : (calls : List Call) → Every OfBytes calls → Good (run calls .end) (notesOn (heardOn calls))

@@ -102,5 +102,5 @@ sent-heard call out (Answer.Refused refusal) least fits =
 
 pub answers-heard : AnswersHeard
 unfolding callOf
-answers-heard shared frame out table are-bytes =
+answers-heard shared frame out table =
     sent-heard (framed frame out) out (doneOf (shared .book) (shared .tickets) frame out .answer) (numbered (shared .book) (shared .tickets) frame out) (answer-fits (shared .book) (shared .tickets) table frame out)

@@ -2,7 +2,7 @@
 use Prim.Native.Nat.{ℕ, _+_, _*_, _-_, _<_, _≤_}
 use native.Mathlib.Omega.{arith}
 use mathlib.Core.Path.{_≡_, refl, sym, ap, subst, _∙_}
-use mathlib.Core.Logic.{inl, inr}
+use mathlib.Core.Logic.{_⊎_, inl, inr}
 use mathlib.Core.Bool.{Bool, true, false, cond}
 use mathlib.Core.List.{List, [], _∷_, _++_, append-assoc}
 use borrow.Author.Tests.{lt-ltb, le-ltb}
@@ -21,8 +21,9 @@ use Rattle.book.specs.declared.Streamed.{Streamed}
 use Rattle.book.specs.Way.{wayOf}
 use Rattle.book.specs.Run.{Shared, heardOf, leftBy, runFrom}
 use Rattle.book.specs.Linearizable.{Every}
+use Rattle.frames.specs.Fields.{longestFrame}
 use Rattle.book.specs.Survey.{longestField, joined, allWritten, callOn, callsOn, written}
-use Rattle.book.specs.Stream.{WholeFrame, StartsWhole, StopRight, sharing, runOn, StreamRight, Roomy, bytesOf, streamOf, PiecesSuffice}
+use Rattle.book.specs.Stream.{WholeFrame, StartsWhole, StopRight, sharing, runOn, StreamRight, Roomy, RoomSuffices, bytesOf, streamOf, PiecesSuffice}
 use Rattle.book.proofs.StreamRun.{answerOf, leftOf, way-length, run-left, run-wrote, stream-is-run}
 
 -- Frames one after another: their bytes, that all are whole, and their run.
@@ -121,6 +122,14 @@ stop-is OutputFull rest room right none-starts = absurd (none-starts (right .0))
 stop-is BadLength rest room right none-starts = rw (le-ltb (length rest) 2 (right .0), lt-ltb longestField (lengthField rest) (right .1))
 stop-is NoBook rest room right none-starts = absurd right
 
+-- Less than a whole frame is left, but for a bad length.
+few-left : (stop : Stop) (rest : Bytes) (room : ℕ) → StopRight stop rest room → (StartsWhole rest → ⊥) → (stop ≡ BadLength) ⊎ (length rest < longestFrame)
+few-left MoreInput rest room (inl few) none-starts = inr (omega (arith, few))
+few-left MoreInput rest room (inr begun) none-starts = inr (omega (arith, begun .0, begun .1))
+few-left OutputFull rest room right none-starts = absurd (none-starts (right .0))
+few-left BadLength rest room right none-starts = inl refl
+few-left NoBook rest room right none-starts = absurd right
+
 -- What is known of a stream with room for every answer, and of what any stream wrote.
 module _ (words : Words) (tickets : Tickets) (input out : Bytes) (whole : length words ≡ wordsInBook) where
   abbrev result : Streamed × Words × Bytes
@@ -136,6 +145,9 @@ module _ (words : Words) (tickets : Tickets) (input out : Bytes) (whole : length
       none-left (result .0 .stop) over (length out - result .0 .written) (right .stop-right)
       (λ two. omega (arith, roomy, two, long, length-append (joined (right .frames)) over, right .written, run-short words tickets (right .frames) whole (right .all-whole)))
 
+  few : (StartsWhole (drop (result .0 .consumed) input) → ⊥) → (result .0 .stop ≡ BadLength) ⊎ (length (drop (result .0 .consumed) input) < longestFrame)
+  few = few-left (result .0 .stop) (drop (result .0 .consumed) input) (length out - result .0 .written) (right .stop-right)
+
   wrote : bytesOf result ≡ allWritten (runOn (sharing words tickets) (right .frames) .heard)
   wrote =
       let answers = allWritten (runOn (sharing words tickets) (right .frames) .heard) in
@@ -143,6 +155,9 @@ module _ (words : Words) (tickets : Tickets) (input out : Bytes) (whole : length
 
   left-length : length (result .1) ≡ wordsInBook
   left-length = ap (λ (shared : Shared). length (shared .book)) (right .left) ∙ run-length words tickets (right .frames) whole
+
+pub room-suffices : RoomSuffices
+room-suffices words tickets input out whole roomy = few words tickets input out whole (rest-none words tickets input out whole roomy)
 
 pub pieces-suffice : PiecesSuffice
 pieces-suffice words tickets piece next out later both whole roomy roomy-both =

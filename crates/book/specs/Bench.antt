@@ -1,7 +1,7 @@
 -- "Bench examples": a table of twelve, with one property over it; and the whole case of "The program survey".
 use Prim.Native.Nat.{ℕ}
 use mathlib.Core.Path.{_≡_}
-use mathlib.Core.List.{List, [], _∷_, _++_}
+use mathlib.Core.List.{List, [], _∷_, _++_, map}
 use lib.ListN.{replicate}
 use lib.IntN.{ℤ, pos, negsuc}
 use Rattle.words.specs.Words.{measureWord, lastLeg}
@@ -27,18 +27,10 @@ pub data Example : Type 0 where
   figure : (found expected : ℕ) → Example
   stream : (asked : List Request) (answered : List Answer) → Example
 
-abbrev pub requestBytes : List Request → Bytes
-requestBytes [] = []
-requestBytes (request ∷ requests) = requestFrame request ++ requestBytes requests
-
-abbrev pub answerBytes : List Answer → Bytes
-answerBytes [] = []
-answerBytes (answer ∷ answers) = answerFrame answer ++ answerBytes answers
-
 -- The one property, of bytes where the example is a stream.
 abbrev pub Holds : Example → Type 0
 Holds (figure found expected) = found ≡ expected
-Holds (stream asked answered) = surveyOf (requestBytes asked) ≡ answerBytes answered
+Holds (stream asked answered) = surveyOf (joined (map requestFrame asked)) ≡ joined (map answerFrame answered)
 
 -- "That leg", of the whole case: 1 to 2, 5,000 mm, 90.00°, −1.50°.
 abbrev pub stations : Stations

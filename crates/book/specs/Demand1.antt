@@ -1,7 +1,6 @@
 -- Demand 1: every frame gets one answer from the list, for every book and ticket table; a refusal changes no word and no ticket.
 use Prim.Native.Nat.{ℕ, _≤_, _<_}
 use mathlib.Core.Path.{_≡_}
-use mathlib.Core.Bool.{true}
 use mathlib.Core.Option.{none, some}
 use lib.ListN.{length, take, drop}
 use Rattle.words.specs.Words.{Words, mostTargets, teamCount}
@@ -16,7 +15,7 @@ use Rattle.frames.specs.declared.Request.{Request}
 use Rattle.frames.specs.declared.Request.the-variants.{Open, Step, Look}
 use Rattle.frames.specs.declared.Answer.{Answer}
 use Rattle.frames.specs.declared.Answer.the-variants as Answer
-use Rattle.frames.specs.Numbers.{Bytes, areBytes}
+use Rattle.frames.specs.Numbers.{Bytes}
 use Rattle.frames.specs.Requests.{requestIn}
 use Rattle.frames.specs.Answers.{longestAnswer}
 use Rattle.frames.specs.Reading.{answerIn}
@@ -72,9 +71,9 @@ pub data Answered (words : Words) (tickets : Tickets) (frame out : Bytes) : Type
       → Answers words tickets frame out answer
       → Answered words tickets frame out
 
--- Statement: demand 1, for every book, every table as the code has it, every frame of bytes and every output.
+-- Statement: demand 1, for every book, every table as the code has it, every frame and every output.
 abbrev pub Demand1 : Type 0
-Demand1 = (words : Words) (tickets : Tickets) (frame out : Bytes) → TableFits tickets → areBytes frame ≡ true → Answered words tickets frame out
+Demand1 = (words : Words) (tickets : Tickets) (frame out : Bytes) → TableFits tickets → Answered words tickets frame out
 
 -- Statement: a call leaves a table as the code has it,
 abbrev pub TablesStay : Type 0
@@ -96,5 +95,5 @@ OthersKeepTickets =
 -- Statement: what is heard of a call, read from the number returned and the bytes written, is the answer of its definition.
 abbrev pub AnswersHeard : Type 0
 AnswersHeard =
-    (shared : Shared) (frame out : Bytes) → TableFits (shared .tickets) → areBytes frame ≡ true
+    (shared : Shared) (frame out : Bytes) → TableFits (shared .tickets)
     → answerHeard (heardOf shared (framed frame out)) ≡ some (doneOf (shared .book) (shared .tickets) frame out .answer)

@@ -19,6 +19,7 @@ use Rattle.book.specs.declared.Streamed.{Streamed}
 use Rattle.book.specs.Call.{callOf}
 use Rattle.book.specs.Run.{Shared, Run, runFrom}
 use Rattle.book.specs.Linearizable.{Every}
+use Rattle.frames.specs.Fields.{longestFrame}
 use Rattle.book.specs.Survey.{longestField, joined, allWritten, callsOn}
 
 -- The bytes of the whole frame at a place of the input, or why there is none: a length field above 62, or bytes that are still to come.
@@ -103,6 +104,14 @@ StreamIsRun = (words : Words) (tickets : Tickets) (input out : Bytes) → length
 -- Room for every answer: a frame has at least two bytes, an answer at most twelve.
 abbrev pub Roomy : Bytes → Bytes → Type 0
 Roomy input out = longestAnswer * length input ≤ 2 * length out
+
+-- Statement: with such room a stream stops at a length field above 62, or where less than a whole frame is left.
+abbrev pub RoomSuffices : Type 0
+RoomSuffices =
+    (words : Words) (tickets : Tickets) (input out : Bytes)
+    → length words ≡ wordsInBook → Roomy input out
+    → let result = streamOf words tickets input out in
+    (result .0 .stop ≡ BadLength) ⊎ (length (drop (result .0 .consumed) input) < longestFrame)
 
 -- What a stream wrote.
 abbrev pub bytesOf : Streamed × Words × Bytes → Bytes

@@ -1,7 +1,7 @@
 -- "The program survey": the bytes that it writes for the bytes that it reads.
 use Prim.Native.Nat.{ℕ, zero, suc, _+_, _-_}
 use mathlib.Core.Path.{_≡_}
-use mathlib.Core.List.{List, [], _∷_, _++_}
+use mathlib.Core.List.{List, [], _∷_, _++_, map}
 use mathlib.Core.Bool.{Bool, true, cond}
 use lib.ListN.{length, take, drop, replicate}
 use lib.Dec.{ltb}
@@ -69,12 +69,10 @@ joined [] = []
 joined (bytes ∷ later) = bytes ++ joined later
 
 abbrev pub allWritten : List Heard → Bytes
-allWritten [] = []
-allWritten (one ∷ later) = written one ++ allWritten later
+allWritten heard = joined (map written heard)
 
 abbrev pub callsOn : List Bytes → List Call
-callsOn [] = []
-callsOn (frame ∷ frames) = callOn frame ∷ callsOn frames
+callsOn frames = map callOn frames
 
 -- What is left behind the whole frames.
 abbrev pub restOf : Bytes → Bytes

@@ -106,10 +106,6 @@ takenInRange taken =
 abbrev pub takenFieldOf : Taken → TakenField
 takenFieldOf taken = cond (takenInRange taken) (TakenField.InRange taken) TakenField.OutOfRange
 
--- The same leg is named by two numbers; 0 names none.
-abbrev pub sameLeg : ℕ → ℕ → Bool
-sameLeg leg other = allHold (not (eqb leg 0) ∷ eqb leg other ∷ [])
-
 -- What the fields of an edit are read as: refused by 10 where one is out of range, then by 11, or else the edit.
 unfoldable pub editRead : Edit → EditRead
 editRead edit = cond (editInRange edit) (cond (editRepeats edit) (EditRead.Refused 11) (EditRead.Is edit)) (EditRead.Refused 10)

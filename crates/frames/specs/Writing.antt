@@ -1,7 +1,7 @@
 -- The frame that asks for a request: the other way round from `requestIn`.
 use Prim.Native.Nat.{ℕ, _-_}
 use mathlib.Core.Path.{_≡_}
-use mathlib.Core.List.{List, [], _∷_, _++_}
+use mathlib.Core.List.{List, [], _∷_, _++_, map}
 use mathlib.Core.Bool.{Bool, true}
 use lib.Dec.{ltb}
 use lib.IntN.{ℤ, pos, negsuc}
@@ -73,6 +73,10 @@ requestFields (Look word) = bytes16 word
 unfoldable pub requestFrame : Request → Bytes
 requestFrame request = frameOf (requestKind request) (requestFields request)
 
+-- A number of 16 bits.
+abbrev pub numberFits : ℕ → Bool
+numberFits number = ltb number 65536
+
 -- A signed number of 16 bits.
 abbrev pub signedFits : ℤ → Bool
 signedFits (pos n) = ltb n 32768
@@ -80,21 +84,13 @@ signedFits (negsuc n) = ltb n 32768
 
 -- A distance of 32 bits, a compass and a clino of 16.
 abbrev pub measureFits : Measure → Bool
-measureFits measure = allHold (ltb (measure .distance) 4294967296 ∷ ltb (measure .compass) 65536 ∷ signedFits (measure .clino) ∷ [])
-
-abbrev pub numbersFit : List ℕ → List Bool
-numbersFit [] = []
-numbersFit (number ∷ numbers) = ltb number 65536 ∷ numbersFit numbers
-
-abbrev pub measuresFit : List Measure → List Bool
-measuresFit [] = []
-measuresFit (measure ∷ measures) = measureFits measure ∷ measuresFit measures
+measureFits measure = allHold (ltb (measure .distance) 4294967296 ∷ numberFits (measure .compass) ∷ signedFits (measure .clino) ∷ [])
 
 -- Every field has room in its bits; it may be out of range.
 abbrev pub requestFits : Request → Bool
-requestFits (Open team edit) = allHold (allHold (numbersFit (team ∷ editNumbers edit)) ∷ allHold (measuresFit (editMeasures edit)) ∷ [])
-requestFits (Step team) = ltb team 65536
-requestFits (Look word) = ltb word 65536
+requestFits (Open team edit) = allHold (allHold (map numberFits (team ∷ editNumbers edit)) ∷ allHold (map measureFits (editMeasures edit)) ∷ [])
+requestFits (Step team) = numberFits team
+requestFits (Look word) = numberFits word
 
 -- Statement: what is asked for is read back from its frame without loss.
 abbrev pub RequestsReadBack : Type 0
