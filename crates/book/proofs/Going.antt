@@ -1,16 +1,18 @@
 -- The way of a frame, case by case: each test of the code and what the definitions of the way say there.
 use Prim.Native.Nat.{ℕ, _-_, _≤_, _<_}
 use mathlib.Core.Path.{_≡_, refl, sym, ap, subst, _∙_}
-use mathlib.Core.Bool.{true, false, cond}
+use mathlib.Core.Bool.{true, false, cond, false≢true}
 use native.Mathlib.Omega.{arith}
 use native.Mathlib.Decide.{ℕ-discrete}
 use borrow.Author.Tests.{eq-eqb, ne-eqb, lt-ltb, le-ltb}
 use lib.Dec.{lit<}
-use lib.ListN.{length}
+use lib.ListN.{length, length-drop}
 use Rattle.words.specs.Words.{Words, wordsInBook, teamCount}
 use Rattle.tickets.specs.declared.Ticket.{Ticket}
-use Rattle.tickets.specs.Tickets.{hasTicket, wellMade}
-use Rattle.tickets.specs.Steps.{stepOf, lookOf}
+use Rattle.tickets.specs.declared.StepAnswer.{StepAnswer}
+use Rattle.tickets.specs.declared.StepAnswer.the-variants as StepAnswer
+use Rattle.tickets.specs.Tickets.{noTicket, hasTicket, wellMade}
+use Rattle.tickets.specs.Steps.{finishes, afterAnswer, stepOf, lookOf}
 use Rattle.edits.specs.declared.Edit.{Edit}
 use Rattle.edits.specs.Ranges.{editAllowed}
 use Rattle.edits.specs.Opened.{openedTicket}
@@ -21,13 +23,13 @@ use Rattle.frames.specs.declared.Header.the-variants as Header
 use Rattle.frames.specs.declared.EditRead.{EditRead}
 use Rattle.frames.specs.declared.EditRead.the-variants as EditRead
 use Rattle.frames.specs.Numbers.{Bytes, number16}
-use Rattle.frames.specs.Requests.{partAfterKind, addKind, stepKind, lookKind, lengthOfKind, teamIn, editOfKind}
+use Rattle.frames.specs.Requests.{headBytes, partAfterKind, addKind, stepKind, lookKind, lengthOfKind, teamIn, editOfKind}
 use Rattle.frames.specs.Fields.{editRead, Whole}
-use Rattle.frames.proofs.Decoded.{only-allowed}
-use Rattle.book.specs.declared.Aim.{Aim}
-use Rattle.book.specs.declared.Aim.the-variants as Aim
-use Rattle.book.specs.declared.Settled.{Settled}
-use Rattle.book.specs.Way.{aimBy, AimKnown, SlotKnown, settled, lookSettled, openSettled, stepSettled, teamSettled}
+use Rattle.decoder.proofs.Decoded.{only-allowed}
+use Rattle.calls.specs.declared.Aim.{Aim}
+use Rattle.calls.specs.declared.Aim.the-variants as Aim
+use Rattle.calls.specs.declared.Settled.{Settled}
+use Rattle.calls.specs.Way.{aimBy, AimKnown, SlotKnown, settled, lookAnswer, openSettled, stepSettled, teamSettled}
 
 -- Where a whole frame goes.
 pub aim-look : (frame : Bytes) (kind : ℕ) → kind ≡ lookKind → Aim.Look ≡ aimBy frame (Header.Kind kind)
@@ -46,13 +48,11 @@ slot-known frame Aim.Look known = tt
 slot-known frame (Aim.Team kind team) known = known .2
 
 -- A look, or refusal 10.
-pub look-shown : (words : Words) (ticket : Ticket) (word : ℕ) → word < wordsInBook → settled ticket (Answer.Look (lookOf words word)) ≡ lookSettled words ticket word
-unfolding lookSettled
-look-shown words ticket word l = ap (λ b. settled ticket (cond b (Answer.Look (lookOf words word)) (Answer.Refused 10))) (sym (lt-ltb word wordsInBook l))
+pub look-shown : (words : Words) (word : ℕ) → word < wordsInBook → Answer.Look (lookOf words word) ≡ lookAnswer words word
+look-shown words word l = ap (λ b. cond b (Answer.Look (lookOf words word)) (Answer.Refused 10)) (sym (lt-ltb word wordsInBook l))
 
-pub look-outside : (words : Words) (ticket : Ticket) (word : ℕ) → wordsInBook ≤ word → settled ticket (Answer.Refused 10) ≡ lookSettled words ticket word
-unfolding lookSettled
-look-outside words ticket word l = ap (λ b. settled ticket (cond b (Answer.Look (lookOf words word)) (Answer.Refused 10))) (sym (le-ltb word wordsInBook l))
+pub look-outside : (words : Words) (word : ℕ) → wordsInBook ≤ word → Answer.Refused 10 ≡ lookAnswer words word
+look-outside words word l = ap (λ b. cond b (Answer.Look (lookOf words word)) (Answer.Refused 10)) (sym (le-ltb word wordsInBook l))
 
 -- An edit that is read is allowed.
 pub read-allowed : (edit read : Edit) → editRead edit ≡ EditRead.Is read → editAllowed read ≡ true
@@ -114,3 +114,20 @@ long-enough = by-kind (λ kind. 1 < lengthOfKind kind - 2) (lit< tt) (lit< tt) (
 -- Every known frame has room for the first field of its part.
 pub team-inside : (frame : Bytes) (kind : ℕ) → Whole frame kind → 1 < length (partAfterKind frame)
 team-inside frame kind whole = subst (λ (l : ℕ). 1 < l) (sym (whole .fields)) (long-enough kind (whole .first) (whole .last))
+
+-- An edit's frame has a length and a kind.
+pub head-inside : (frame : Bytes) (kind : ℕ) → addKind ≤ kind → kind < stepKind → length (partAfterKind frame) ≡ lengthOfKind kind - 2 → headBytes ≤ length frame
+head-inside frame kind first last fields =
+    let some = long-enough kind first (omega arith) in
+    let left : length frame - headBytes ≡ lengthOfKind kind - 2 = sym (length-drop headBytes frame) ∙ fields in
+    omega (arith, some, left)
+
+-- A step that finishes leaves no ticket.
+pub gone-after : (ticket : Ticket) (answer : StepAnswer) → finishes answer ≡ true → noTicket ≡ afterAnswer ticket answer
+gone-after ticket (StepAnswer.Claimed many) ends = absurd (false≢true ends)
+gone-after ticket (StepAnswer.Waiting word) ends = absurd (false≢true ends)
+gone-after ticket (StepAnswer.Found word) ends = absurd (false≢true ends)
+gone-after ticket (StepAnswer.Put many) ends = absurd (false≢true ends)
+gone-after ticket (StepAnswer.Returned many) ends = absurd (false≢true ends)
+gone-after ticket (StepAnswer.Granted tries) ends = refl
+gone-after ticket (StepAnswer.Stale word tries) ends = refl

@@ -5,45 +5,37 @@ ghost use Prim.Native.Nat.{_+_, _-_, _≤_, _<_};
 ghost use lib.ListN.{length};
 ghost use Rattle.words.specs.Words.{wordsInBook, teamCount};
 ghost use Rattle.tickets.specs.Tickets.{wellMade};
-ghost use Rattle.tickets.specs.Steps.{stepOf};
-ghost use Rattle.frames.specs.Requests.{addKind, stepKind, lengthOfKind, editOfKind};
+ghost use Rattle.tickets.specs.Steps.{afterAnswer, AnswerFits};
+ghost use Rattle.frames.specs.Requests.{partAfterKind, addKind, stepKind, lengthOfKind, editOfKind};
 ghost use Rattle.frames.specs.Numbers.{number16};
 ghost use Rattle.frames.specs.Fields.{Whole, editRead};
-ghost use Rattle.frames.specs.Answers.{longestAnswer};
+ghost use Rattle.frames.specs.Answers.{longestAnswer, answerFrame, written};
+ghost use Rattle.frames.specs.declared.Answer.the-variants as Answer;
 ghost use Rattle.frames.specs.declared.Header.the-variants as Header;
-ghost use Rattle.book.specs.Call.{callOf};
-ghost use Rattle.book.specs.declared.Stop.the-variants.{MoreInput};
-ghost use Rattle.book.specs.Stream.{nextAt, NextInside, stoppedOr, streamFrom, streamOf};
-ghost use Rattle.book.specs.Way.{aimBy, aimOf, AimKnown, SlotKnown, TeamFrame, slotOf, lookSettled, openSettled, stepSettled, teamSettled, settledBy};
+ghost use Rattle.calls.specs.Call.{callOf};
+ghost use Rattle.calls.specs.declared.Stop.the-variants.{MoreInput};
+ghost use Rattle.calls.specs.declared.Outcome.the-variants as Outcome;
+ghost use Rattle.calls.specs.Stream.{nextAt, NextInside, roomIn, withRoom, streamed, stoppedOr, streamFrom, streamOf};
+ghost use Rattle.calls.specs.Way.{aimBy, aimOf, AimKnown, SlotKnown, TeamFrame, slotOf, settled, lookAnswer, openSettled, outcomeSettled, OutcomeKnown, SlotWellMade, slotWellMade, wellMadeFrom, teamSettled, settledBy};
+use calls::Aim;
+use calls::Next;
+use calls::Outcome;
+use calls::Reply;
+use calls::Settled;
+use calls::Stop;
+use calls::Streamed;
 use frames::Answer;
 use frames::EditRead;
 use frames::Frame;
 use frames::Header;
 use frames::Kind;
 use frames::Refusal;
+use tickets::StepAnswer;
 use tickets::Ticket;
 use tickets::Tickets;
 use words::Limits;
 
-// What the call returns: the bytes written (1 or 2 for those refusals), and the tickets.
-pub struct Reply {
-    pub written: usize,
-    pub tickets: Tickets,
-}
-
-// Where a frame goes: back, refused; to a look; or to a team, with its kind.
-enum Aim {
-    Refused(u16),
-    Look,
-    Team(u16, u16),
-}
-
-// What a frame makes of the ticket in its slot, and its answer.
-struct Settled {
-    ticket: Ticket,
-    answer: Answer,
-}
-
+// A look goes to no team, whatever its fields.
 fn aim_by_kind(frame: &[u8], kind: u16) -> Aim
     requires { ⌜ Whole (now frame) kind ⌝ }
     ensures { λ r. ⌜ (r ≡ aimBy (now (frame .entry)) (Header.Kind kind)) × AimKnown (now (frame .entry)) r ⌝ }
@@ -70,6 +62,7 @@ fn aim_of(frame: &[u8]) -> Aim
     }
 }
 
+// The slot that a frame uses: its team's, else the first, which it leaves as it is.
 fn slot_of(aim: Aim) -> usize
     requires { ⌜ SlotKnown aim ⌝ }
     ensures { λ r. ⌜ (r ≡ slotOf aim) × (r < teamCount) ⌝ }
@@ -81,29 +74,23 @@ fn slot_of(aim: Aim) -> usize
     }
 }
 
-fn look_at(book: &[u64], ticket: Ticket, part: &[u8]) -> Settled
+fn look_at(book: &[u64], part: &[u8]) -> Answer
     requires { ⌜ (length (now book) ≡ wordsInBook) × (1 < length (now part)) ⌝ }
-    ensures { λ r. ⌜ r ≡ lookSettled (now (book .entry)) ticket (number16 (now (part .entry)) 0) ⌝ }
+    ensures { λ r. ⌜ r ≡ lookAnswer (now (book .entry)) (number16 (now (part .entry)) 0) ⌝ }
 {
     let word = frames::numbers::read16(part, 0);
     if (word as usize) < Limits::WORDS {
         let answer = tickets::look(book, word);
-        return Settled {
-            ticket: ticket,
-            answer: Answer::Look(answer),
-        };
+        return Answer::Look(answer);
     }
-    Settled {
-        ticket: ticket,
-        answer: Answer::Refused(Refusal::RANGE),
-    }
+    Answer::Refused(Refusal::RANGE)
 }
 
 fn open_edit(ticket: Ticket, part: &[u8], kind: u16) -> Settled
     requires { ⌜ (addKind ≤ kind) × (kind < stepKind) × (length (now part) ≡ lengthOfKind kind - 2) ⌝ }
     ensures { λ r. ⌜ r ≡ openSettled ticket (editRead (editOfKind kind (now (part .entry)))) ⌝ }
 {
-    let read = frames::decoding::read_edit(kind, part);
+    let read = decoder::read_edit(kind, part);
     match read {
         EditRead::Is(edit) => {
             let opened = edits::opened(edit);
@@ -119,66 +106,126 @@ fn open_edit(ticket: Ticket, part: &[u8], kind: u16) -> Settled
     }
 }
 
-fn step_team(book: &mut [u64], ticket: Ticket, team: u16) -> Settled
-    requires { ⌜ (length (now book) ≡ wordsInBook) × (wellMade ticket ≡ true) × (team < teamCount) ⌝ }
-    ensures { λ r. ⌜ (r, now (book .exit)) ≡ stepSettled (stepOf (now (book .entry)) ticket team) ⌝ }
+// Whether a ticket in its slot is well made; a slot without one passes.
+fn slot_well_made(ticket: Ticket) -> bool
+    ensures { λ r. ⌜ r ≡ slotWellMade ticket ⌝ }
 {
-    let stepped = tickets::step(book, ticket, team);
-    let next = stepped.ticket;
-    let answer = stepped.answer;
-    Settled {
-        ticket: next,
-        answer: Answer::Step(answer),
+    if ticket.stands() {
+        return ticket.well_made();
     }
+    true
+}
+
+// Whether all tickets are well made.
+fn all_well_made(tickets: Tickets) -> bool
+    ensures { λ r. ⌜ r ≡ wellMadeFrom 0 teamCount tickets ⌝ }
+{
+    let mut team: usize = 0;
+    while team < Limits::TEAMS {
+        let ticket = tickets.slots[team];
+        if !slot_well_made(ticket) {
+            return false;
+        }
+        team += 1;
+    }
+    true
+}
+
+// Whether a ticket is well made; in a table of which that is known it is not tested again.
+fn known_well_made(ticket: Ticket, known: bool) -> bool
+    requires { ⌜ (known ≡ true → wellMade ticket ≡ true) ⌝ }
+    ensures { λ r. ⌜ r ≡ wellMade ticket ⌝ }
+{
+    if known {
+        return true;
+    }
+    ticket.well_made()
 }
 
 // A step or an edit of a team, by the ticket that it has or hasn't.
-fn team_frame(book: &mut [u64], ticket: Ticket, part: &[u8], kind: u16, team: u16) -> Settled
-    requires { ⌜ TeamFrame (now book) (now part) kind team ⌝ }
-    ensures { λ r. ⌜ (r, now (book .exit)) ≡ teamSettled (now (book .entry)) ticket (now (part .entry)) kind team ⌝ }
+fn team_frame(
+    book: &mut [u64],
+    ticket: Ticket,
+    known: bool,
+    part: &[u8],
+    kind: u16,
+    team: u16,
+) -> Outcome
+    requires { ⌜ TeamFrame (now book) (now part) kind team × (known ≡ true → SlotWellMade ticket) ⌝ }
+    ensures { λ r. ⌜ ((outcomeSettled ticket (now (part .entry)) r, now (book .exit)) ≡ teamSettled (now (book .entry)) ticket (now (part .entry)) kind team) × OutcomeKnown ticket (now (part .entry)) r ⌝ }
 {
     if ticket.stands() {
-        if !ticket.well_made() {
-            return Settled {
-                ticket: ticket,
-                answer: Answer::Refused(Refusal::TICKET),
-            };
+        if !known_well_made(ticket, known) {
+            return Outcome::Left(Answer::Refused(Refusal::TICKET));
         }
         if kind == Kind::STEP {
-            return step_team(book, ticket, team);
+            let step = tickets::step(book, ticket, team);
+            return Outcome::Stepped(step);
         }
-        return Settled {
-            ticket: ticket,
-            answer: Answer::Refused(Refusal::STANDING),
-        };
+        return Outcome::Left(Answer::Refused(Refusal::STANDING));
     }
     if kind == Kind::STEP {
-        return Settled {
-            ticket: ticket,
-            answer: Answer::Refused(Refusal::NO_TICKET),
-        };
+        return Outcome::Left(Answer::Refused(Refusal::NO_TICKET));
     }
-    open_edit(ticket, part, kind)
+    Outcome::Edit(kind)
 }
 
-// What an aimed frame makes of the ticket in its slot.
-fn settle(book: &mut [u64], ticket: Ticket, frame: &[u8], aim: Aim) -> Settled
-    requires { ⌜ (length (now book) ≡ wordsInBook) × AimKnown (now frame) aim ⌝ }
-    ensures { λ r. ⌜ (r, now (book .exit)) ≡ settledBy (now (book .entry)) ticket (now (frame .entry)) aim ⌝ }
+// What an aimed frame comes to.
+fn settle(book: &mut [u64], ticket: Ticket, known: bool, frame: &[u8], aim: Aim) -> Outcome
+    requires { ⌜ (length (now book) ≡ wordsInBook) × AimKnown (now frame) aim × (known ≡ true → SlotWellMade ticket) ⌝ }
+    ensures { λ r. ⌜ ((outcomeSettled ticket (partAfterKind (now (frame .entry))) r, now (book .exit)) ≡ settledBy (now (book .entry)) ticket (now (frame .entry)) aim) × OutcomeKnown ticket (partAfterKind (now (frame .entry))) r ⌝ }
 {
     match aim {
-        Aim::Refused(number) => Settled {
-            ticket: ticket,
-            answer: Answer::Refused(number),
-        },
+        Aim::Refused(number) => Outcome::Left(Answer::Refused(number)),
         Aim::Look => {
             let part = frames::head::part_after_kind(frame);
-            look_at(book, ticket, part)
+            let answer = look_at(book, part);
+            Outcome::Left(answer)
         }
         Aim::Team(kind, team) => {
             let part = frames::head::part_after_kind(frame);
-            team_frame(book, ticket, part, kind, team)
+            team_frame(book, ticket, known, part, kind, team)
         }
+    }
+}
+
+// The edit of a frame, read: the ticket that it opens, or its refusal.
+fn open_frame(ticket: Ticket, frame: &[u8], kind: u16) -> Settled
+    requires { ⌜ OutcomeKnown ticket (partAfterKind (now frame)) (Outcome.Edit kind) ⌝ }
+    ensures { λ r. ⌜ r ≡ outcomeSettled ticket (partAfterKind (now (frame .entry))) (Outcome.Edit kind) ⌝ }
+{
+    let part = frames::head::part_after_kind(frame);
+    open_edit(ticket, part, kind)
+}
+
+fn step_settled(ticket: Ticket, step: StepAnswer) -> Settled
+    requires { ⌜ AnswerFits ticket step ⌝ }
+    ensures { λ r. ⌜ r ≡ settled (afterAnswer ticket step) (Answer.Step step) ⌝ }
+{
+    if step.finishes() {
+        return Settled {
+            ticket: Ticket::none(),
+            answer: Answer::Step(step),
+        };
+    }
+    Settled {
+        ticket: ticket.after(step),
+        answer: Answer::Step(step),
+    }
+}
+
+// The ticket that an outcome leaves, and its answer.
+fn settled_by(ticket: Ticket, frame: &[u8], outcome: Outcome) -> Settled
+    requires { ⌜ OutcomeKnown ticket (partAfterKind (now frame)) outcome ⌝ }
+    ensures { λ r. ⌜ r ≡ outcomeSettled ticket (partAfterKind (now (frame .entry))) outcome ⌝ }
+{
+    match outcome {
+        Outcome::Left(answer) => Settled {
+            ticket: ticket,
+            answer: answer,
+        },
+        Outcome::Stepped(step) => step_settled(ticket, step),
+        Outcome::Edit(kind) => open_frame(ticket, frame, kind),
     }
 }
 
@@ -201,39 +248,19 @@ pub fn call(book: &mut [u64], mut tickets: Tickets, frame: &[u8], out: &mut [u8]
     let aim = aim_of(frame);
     let slot = slot_of(aim);
     let ticket = tickets.slots[slot];
-    let done = settle(book, ticket, frame, aim);
+    let outcome = settle(book, ticket, false, frame, aim);
+    let done = settled_by(ticket, frame, outcome);
     let next = done.ticket;
     let answer = done.answer;
     tickets.slots[slot] = next;
-    let written = frames::writing::write_answer(out, answer);
+    let written = encoder::write_answer(out, answer);
     Reply {
         written: written,
         tickets: tickets,
     }
 }
 
-// Why a stream stopped: the rest is no whole frame yet; there is no room for an answer; a length field is too
-// large; the book has another length.
-pub enum Stop {
-    MoreInput,
-    OutputFull,
-    BadLength,
-    NoBook,
-}
-
-pub struct Streamed {
-    pub tickets: Tickets,
-    pub consumed: usize,
-    pub written: usize,
-    pub stop: Stop,
-}
-
-// The bytes of the next frame, or why there is none.
-enum Next {
-    Frame(usize),
-    End(Stop),
-}
-
+// The size of the whole frame at a place, or why there is none.
 fn next_frame(input: &[u8], at: usize) -> Next
     requires { ⌜ at ≤ length (now input) ⌝ }
     ensures { λ r. ⌜ (r ≡ nextAt (now (input .entry)) at) × NextInside (now (input .entry)) at r ⌝ }
@@ -262,53 +289,80 @@ fn stop_of(next: Next) -> Stop
     }
 }
 
-// The table stays in one local, and one ticket goes through a frame's way.
+// Writes an answer at a place of the output, and returns the place after it.
+fn put_answer(out: &mut [u8], at: usize, answer: Answer) -> usize
+    requires { ⌜ (at ≤ length (now out)) × (longestAnswer ≤ length (now out) - at) ⌝ }
+    ensures place { λ r. ⌜ (r ≡ at + written (roomIn (now (out .entry)) at) (answerFrame answer) .0) × (r ≤ length (now (out .entry))) ⌝ }
+    ensures bytes { λ r. ⌜ (now (out .exit) ≡ withRoom (now (out .entry)) at (written (roomIn (now (out .entry)) at) (answerFrame answer) .1)) × (length (now (out .exit)) ≡ length (now (out .entry))) ⌝ }
+{
+    let room = &mut out[at..];
+    let count = encoder::write_answer(room, answer);
+    at + count
+}
+
+fn stopped(tickets: Tickets, consumed: usize, written: usize, stop: Stop) -> Streamed
+    ensures { λ r. ⌜ r ≡ streamed tickets consumed written stop ⌝ }
+{
+    Streamed {
+        tickets: tickets,
+        consumed: consumed,
+        written: written,
+        stop: stop,
+    }
+}
+
+// The table stays in one local, and one ticket goes through a frame's way. Its slot is stored where the outcome says how: a
+// ticket that goes on then keeps its targets in place. Where all tickets are well made at the start they stay so, and
+// none is tested again.
 fn answer_frames(book: &mut [u64], mut tickets: Tickets, input: &[u8], out: &mut [u8]) -> Streamed
     requires { ⌜ length (now book) ≡ wordsInBook ⌝ }
     ensures { λ r. ⌜ ((r .consumed ≤ length (now (input .entry))) × (r .written ≤ length (now (out .entry)))) × ((r, now (book .exit), now (out .exit)) ≡ streamFrom (length (now (input .entry))) (now (book .entry)) tickets (now (input .entry)) (now (out .entry)) 0 0) ⌝ }
 {
+    let known = all_well_made(tickets);
     let mut at: usize = 0;
-    let mut w: usize = 0;
+    let mut filled: usize = 0;
     let mut left = input.len();
     while 0 < left {
         left -= 1;
         let next = next_frame(input, at);
         let Next::Frame(size) = next else {
-            return Streamed {
-                tickets: tickets,
-                consumed: at,
-                written: w,
-                stop: stop_of(next),
-            };
+            return stopped(tickets, at, filled, stop_of(next));
         };
-        if out.len() - w < Answer::LONGEST {
-            return Streamed {
-                tickets: tickets,
-                consumed: at,
-                written: w,
-                stop: Stop::OutputFull,
-            };
+        if out.len() - filled < Answer::LONGEST {
+            return stopped(tickets, at, filled, Stop::OutputFull);
         }
         let end = at + size;
         let frame = &input[at..end];
         let aim = aim_of(frame);
         let slot = slot_of(aim);
         let ticket = tickets.slots[slot];
-        let done = settle(book, ticket, frame, aim);
-        let after = done.ticket;
-        let answer = done.answer;
-        tickets.slots[slot] = after;
-        let room = &mut out[w..];
-        let count = frames::writing::write_answer(room, answer);
-        w += count;
+        let outcome = settle(book, ticket, known, frame, aim);
         at = end;
+        match outcome {
+            Outcome::Left(answer) => {
+                filled = put_answer(out, filled, answer);
+            }
+            Outcome::Stepped(step) => {
+                if step.finishes() {
+                    let gone = Ticket::none();
+                    tickets.slots[slot] = gone;
+                    filled = put_answer(out, filled, Answer::Step(step));
+                } else {
+                    let after = ticket.after(step);
+                    tickets.slots[slot] = after;
+                    filled = put_answer(out, filled, Answer::Step(step));
+                }
+            }
+            Outcome::Edit(kind) => {
+                let opened = open_frame(ticket, frame, kind);
+                let next = opened.ticket;
+                let answer = opened.answer;
+                tickets.slots[slot] = next;
+                filled = put_answer(out, filled, answer);
+            }
+        }
     }
-    Streamed {
-        tickets: tickets,
-        consumed: at,
-        written: w,
-        stop: Stop::MoreInput,
-    }
+    stopped(tickets, at, filled, Stop::MoreInput)
 }
 
 // All whole frames of the input, answered one after another.
@@ -317,12 +371,7 @@ pub fn stream(book: &mut [u64], tickets: Tickets, input: &[u8], out: &mut [u8]) 
     ensures all { λ r. ⌜ (r, now (book .exit), now (out .exit)) ≡ streamOf (now (book .entry)) tickets (now (input .entry)) (now (out .entry)) ⌝ }
 {
     if book.len() != Limits::WORDS {
-        return Streamed {
-            tickets: tickets,
-            consumed: 0,
-            written: 0,
-            stop: Stop::NoBook,
-        };
+        return stopped(tickets, 0, 0, Stop::NoBook);
     }
     answer_frames(book, tickets, input, out)
 }

@@ -17,10 +17,10 @@ use Rattle.edits.specs.declared.Edit.the-variants as Edit
 use Rattle.edits.specs.Ranges.{stationsInRange, editStationsInRange}
 use Rattle.frames.specs.declared.Request.{Request}
 use Rattle.frames.specs.declared.Request.the-variants.{Open, Step, Look}
-use Rattle.frames.specs.Numbers.{Bytes, areBytes, number16, signedOf}
+use Rattle.frames.specs.Numbers.{Bytes, areBytes, number16, signedOf, fits16}
 use Rattle.frames.specs.Requests.{kindField, partAfterKind, teamIn, addKind, correctKind, strikeKind, stepKind, lookKind, stationsAt, measureAt, addIn, correctIn, strikeIn, moveIn, editOfKind, requestOfKind, requestIn, StationsFit}
 use Rattle.frames.specs.Fields.{headerOf}
-use Rattle.frames.specs.Writing.{bitsOf, fields16, measureBytes, editNumbers, editMeasures, numberFits, signedFits, measureFits, requestFrame, RequestsReadBack, RequestFramesWhole}
+use Rattle.frames.specs.Writing.{bitsOf, fields16, measureBytes, editNumbers, editMeasures, signedFits, measureFits, requestFrame, RequestsReadBack, RequestFramesWhole}
 use Rattle.frames.proofs.Bytes.{back16, back32, bytes-after, numbers-fit}
 
 -- A signed number that fits has 16 bits, and is that of its bits.
@@ -35,15 +35,15 @@ bits-back (negsuc n) h =
     simp (le-ltb (65535 - n) 32768 (omega arith)) (ap negsuc (omega arith))
 
 -- A number, stations and a measure, read from their bytes.
-number-back : (number : ℕ) → numberFits number ≡ true → number % 256 + 256 * (number / 256 % 256) ≡ number
+number-back : (number : ℕ) → fits16 number ≡ true → number % 256 + 256 * (number / 256 % 256) ≡ number
 number-back number h = back16 number (ltb-true number 65536 h)
 
-stations-back : (stations : Stations) → numberFits (stations .from) ≡ true → numberFits (stations .to) ≡ true → stationsAt (fields16 (stations .from ∷ stations .to ∷ [])) 0 ≡ stations
+stations-back : (stations : Stations) → fits16 (stations .from) ≡ true → fits16 (stations .to) ≡ true → stationsAt (fields16 (stations .from ∷ stations .to ∷ [])) 0 ≡ stations
 stations-back stations from to = λ i. record { from = number-back (stations .from) from i; to = number-back (stations .to) to i }
 
 measure-back : (measure : Measure) → measureFits measure ≡ true → measureAt (measureBytes measure) 0 ≡ measure
 measure-back measure h =
-    let (distance, (compass, (clino, u))) = split (ltb (measure .distance) 4294967296 ∷ numberFits (measure .compass) ∷ signedFits (measure .clino) ∷ []) h in
+    let (distance, (compass, (clino, u))) = split (ltb (measure .distance) 4294967296 ∷ fits16 (measure .compass) ∷ signedFits (measure .clino) ∷ []) h in
     let distance-back = back32 (measure .distance) (ltb-true (measure .distance) 4294967296 distance) in
     let clino-back = ap signedOf (back16 (bitsOf (measure .clino)) (bits-fit (measure .clino) clino)) ∙ bits-back (measure .clino) clino in
     λ i. record { distance = distance-back i; compass = number-back (measure .compass) compass i; clino = clino-back i }
@@ -51,8 +51,8 @@ measure-back measure h =
 pub requests-read-back : RequestsReadBack
 unfolding requestIn requestOfKind editOfKind requestFrame addIn correctIn strikeIn moveIn
 requests-read-back (Open team (Edit.Add e)) h =
-    let (n, (m, u)) = split (allHold (map numberFits (team ∷ editNumbers (Edit.Add e))) ∷ allHold (map measureFits (editMeasures (Edit.Add e))) ∷ []) h in
-    let (t, (passage, (leg, (newest, (count, (from, (to, v))))))) = split (map numberFits (team ∷ editNumbers (Edit.Add e))) n in
+    let (n, (m, u)) = split (allHold (map fits16 (team ∷ editNumbers (Edit.Add e))) ∷ allHold (map measureFits (editMeasures (Edit.Add e))) ∷ []) h in
+    let (t, (passage, (leg, (newest, (count, (from, (to, v))))))) = split (map fits16 (team ∷ editNumbers (Edit.Add e))) n in
     let (measure, w) = split (map measureFits (editMeasures (Edit.Add e))) m in
     λ i. Open (number-back team t i) (Edit.Add (record {
       passage = number-back (e .passage) passage i;
@@ -63,8 +63,8 @@ requests-read-back (Open team (Edit.Add e)) h =
       measure = measure-back (e .measure) measure i;
     }))
 requests-read-back (Open team (Edit.Correct e)) h =
-    let (n, (m, u)) = split (allHold (map numberFits (team ∷ editNumbers (Edit.Correct e))) ∷ allHold (map measureFits (editMeasures (Edit.Correct e))) ∷ []) h in
-    let (t, (passage, (leg, (from, (to, v))))) = split (map numberFits (team ∷ editNumbers (Edit.Correct e))) n in
+    let (n, (m, u)) = split (allHold (map fits16 (team ∷ editNumbers (Edit.Correct e))) ∷ allHold (map measureFits (editMeasures (Edit.Correct e))) ∷ []) h in
+    let (t, (passage, (leg, (from, (to, v))))) = split (map fits16 (team ∷ editNumbers (Edit.Correct e))) n in
     let (old, (new, w)) = split (map measureFits (editMeasures (Edit.Correct e))) m in
     λ i. Open (number-back team t i) (Edit.Correct (record {
       passage = number-back (e .passage) passage i;
@@ -74,8 +74,8 @@ requests-read-back (Open team (Edit.Correct e)) h =
       new = measure-back (e .new) new i;
     }))
 requests-read-back (Open team (Edit.Strike e)) h =
-    let (n, (m, u)) = split (allHold (map numberFits (team ∷ editNumbers (Edit.Strike e))) ∷ allHold (map measureFits (editMeasures (Edit.Strike e))) ∷ []) h in
-    let (t, (passage, (newer, (leg, (older, (count, (from, (to, v)))))))) = split (map numberFits (team ∷ editNumbers (Edit.Strike e))) n in
+    let (n, (m, u)) = split (allHold (map fits16 (team ∷ editNumbers (Edit.Strike e))) ∷ allHold (map measureFits (editMeasures (Edit.Strike e))) ∷ []) h in
+    let (t, (passage, (newer, (leg, (older, (count, (from, (to, v)))))))) = split (map fits16 (team ∷ editNumbers (Edit.Strike e))) n in
     let (measure, w) = split (map measureFits (editMeasures (Edit.Strike e))) m in
     λ i. Open (number-back team t i) (Edit.Strike (record {
       passage = number-back (e .passage) passage i;
@@ -87,8 +87,8 @@ requests-read-back (Open team (Edit.Strike e)) h =
       measure = measure-back (e .measure) measure i;
     }))
 requests-read-back (Open team (Edit.Move e)) h =
-    let (n, (m, u)) = split (allHold (map numberFits (team ∷ editNumbers (Edit.Move e))) ∷ allHold (map measureFits (editMeasures (Edit.Move e))) ∷ []) h in
-    let (t, (passage, (into, (newer, (leg, (older, (count, (into-newest, (into-count, (from, (to, v))))))))))) = split (map numberFits (team ∷ editNumbers (Edit.Move e))) n in
+    let (n, (m, u)) = split (allHold (map fits16 (team ∷ editNumbers (Edit.Move e))) ∷ allHold (map measureFits (editMeasures (Edit.Move e))) ∷ []) h in
+    let (t, (passage, (into, (newer, (leg, (older, (count, (into-newest, (into-count, (from, (to, v))))))))))) = split (map fits16 (team ∷ editNumbers (Edit.Move e))) n in
     λ i. Open (number-back team t i) (Edit.Move (record {
       passage = number-back (e .passage) passage i;
       into = number-back (e .into) into i;

@@ -1,8 +1,6 @@
 pub mod Bytes
 pub mod Ranges
 pub mod Put
-pub mod Answered
-pub mod Decoded
 pub mod Headers
 pub mod Framed
 pub mod ReadsBack

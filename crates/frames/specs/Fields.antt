@@ -11,7 +11,7 @@ use Rattle.words.specs.Words.{wordsInBook}
 use Rattle.legs.specs.declared.Measure.{Measure}
 use Rattle.legs.specs.Legs.{clinoInRange, measureInRange}
 use Rattle.edits.specs.declared.Edit.{Edit}
-use Rattle.edits.specs.Ranges.{legInRange, legOrNoneInRange, countBeforeStrikeInRange, editInRange, editRepeats}
+use Rattle.edits.specs.Ranges.{legNumberInRange, legOrNoneInRange, countBeforeStrikeInRange, editInRange, editRepeats}
 use Rattle.frames.specs.declared.Request.{Request}
 use Rattle.frames.specs.declared.Request.the-variants.{Open, Step, Look}
 use Rattle.frames.specs.declared.Header.{Header}
@@ -97,7 +97,7 @@ abbrev pub takenInRange : Taken → Bool
 takenInRange taken =
     allHold (
     legOrNoneInRange (taken .newer)
-    ∷ legInRange (taken .leg)
+    ∷ legNumberInRange (taken .leg)
     ∷ legOrNoneInRange (taken .older)
     ∷ countBeforeStrikeInRange (taken .count)
     ∷ []

@@ -1,5 +1,5 @@
 -- Numbers in bytes: "all fields are little-endian".
-use Prim.Native.Nat.{ℕ, _+_, _*_, _-_, _/_, _%_, _<_}
+use Prim.Native.Nat.{ℕ, _+_, _*_, _-_, _/_, _%_, _^_, _<_}
 use mathlib.Core.Path.{_≡_}
 use mathlib.Core.List.{List, [], _∷_, _++_}
 use mathlib.Core.Bool.{Bool, true, false, cond}
@@ -42,6 +42,16 @@ bytes32 x = bytes16 x ++ bytes16 (x / 65536)
 
 abbrev pub bytes64 : ℕ → Bytes
 bytes64 x = bytes32 x ++ bytes32 (x / 4294967296)
+
+-- A number has room in 16, 32 and 64 bits.
+abbrev pub fits16 : ℕ → Bool
+fits16 x = ltb x 65536
+
+abbrev pub fits32 : ℕ → Bool
+fits32 x = ltb x 4294967296
+
+abbrev pub fits64 : ℕ → Bool
+fits64 x = ltb x (2 ^ 64)
 
 -- Statement: the 16 bits that start at any of a frame's bytes are below 65,536.
 abbrev pub NumbersFit : Type 0

@@ -1,10 +1,9 @@
 -- An answer read back from its bytes: hearing the bytes is hearing the answer.
-use Prim.Native.Nat.{_^_}
 use mathlib.Core.Path.{_≡_}
 use mathlib.Core.List.{List, [], _∷_}
 use mathlib.Core.Bool.{Bool, true, false, cond}
 use mathlib.Core.Option.{Option, none, some}
-use lib.Dec.{eqb, ltb}
+use lib.Dec.{eqb}
 use Rattle.words.specs.Tests.{allHold}
 use Rattle.tickets.specs.declared.StepAnswer.{StepAnswer}
 use Rattle.tickets.specs.declared.StepAnswer.the-variants.{Claimed, Waiting, Found, Put, Returned, Granted, Stale}
@@ -12,7 +11,7 @@ use Rattle.tickets.specs.declared.LookAnswer.{LookAnswer}
 use Rattle.tickets.specs.declared.LookAnswer.the-variants.{Value, Held}
 use Rattle.frames.specs.declared.Answer.{Answer}
 use Rattle.frames.specs.declared.Answer.the-variants.{Standing, Step, Look, Refused}
-use Rattle.frames.specs.Numbers.{Bytes, number16, number32, number64}
+use Rattle.frames.specs.Numbers.{Bytes, number16, number32, number64, fits16, fits32, fits64}
 use Rattle.frames.specs.Requests.{partAfterKind}
 use Rattle.frames.specs.Answers.{answerFrame}
 
@@ -49,28 +48,28 @@ answerIn bytes = firstFramed bytes (answersWith (partAfterKind bytes))
 
 -- Each field has room in its bits.
 abbrev pub stepAnswerFits : StepAnswer → Bool
-stepAnswerFits (Claimed many) = ltb many 65536
-stepAnswerFits (Waiting word) = ltb word 65536
-stepAnswerFits (Found word) = ltb word 65536
-stepAnswerFits (Put many) = ltb many 65536
-stepAnswerFits (Returned many) = ltb many 65536
-stepAnswerFits (Granted tries) = ltb tries 4294967296
-stepAnswerFits (Stale word tries) = allHold (ltb word 65536 ∷ ltb tries 4294967296 ∷ [])
+stepAnswerFits (Claimed many) = fits16 many
+stepAnswerFits (Waiting word) = fits16 word
+stepAnswerFits (Found word) = fits16 word
+stepAnswerFits (Put many) = fits16 many
+stepAnswerFits (Returned many) = fits16 many
+stepAnswerFits (Granted tries) = fits32 tries
+stepAnswerFits (Stale word tries) = allHold (fits16 word ∷ fits32 tries ∷ [])
 
 abbrev pub lookAnswerFits : LookAnswer → Bool
-lookAnswerFits (Value value) = ltb value (2 ^ 64)
+lookAnswerFits (Value value) = fits64 value
 lookAnswerFits Held = true
 
 abbrev pub answerFits : Answer → Bool
-answerFits (Standing n) = ltb n 65536
+answerFits (Standing n) = fits16 n
 answerFits (Step answer) = stepAnswerFits answer
 answerFits (Look answer) = lookAnswerFits answer
-answerFits (Refused number) = ltb number 65536
+answerFits (Refused number) = fits16 number
 
 -- Statement: an answer whose fields fit is read back from its frame,
 abbrev pub AnswersReadBack : Type 0
 AnswersReadBack = (answer : Answer) → answerFits answer ≡ true → answerIn (answerFrame answer) ≡ some answer
 
--- and only from its frame.
+-- Statement: and only from its frame.
 abbrev pub OnlyAnswersRead : Type 0
 OnlyAnswersRead = (bytes : Bytes) (answer : Answer) → answerIn bytes ≡ some answer → bytes ≡ answerFrame answer

@@ -12,7 +12,7 @@ use Rattle.edits.specs.declared.Edit.the-variants.{Add, Correct, Strike, Move}
 use Rattle.frames.specs.declared.Request.{Request}
 use Rattle.frames.specs.declared.Request.the-variants.{Open, Step, Look}
 use Rattle.frames.specs.declared.Header.the-variants.{Kind}
-use Rattle.frames.specs.Numbers.{Bytes, bytes16, bytes32}
+use Rattle.frames.specs.Numbers.{Bytes, bytes16, bytes32, fits16, fits32}
 use Rattle.frames.specs.Requests.{addKind, correctKind, strikeKind, moveKind, stepKind, lookKind, requestIn}
 use Rattle.frames.specs.Answers.{frameOf}
 use Rattle.frames.specs.Fields.{headerOf}
@@ -73,10 +73,6 @@ requestFields (Look word) = bytes16 word
 unfoldable pub requestFrame : Request → Bytes
 requestFrame request = frameOf (requestKind request) (requestFields request)
 
--- A number of 16 bits.
-abbrev pub numberFits : ℕ → Bool
-numberFits number = ltb number 65536
-
 -- A signed number of 16 bits.
 abbrev pub signedFits : ℤ → Bool
 signedFits (pos n) = ltb n 32768
@@ -84,13 +80,13 @@ signedFits (negsuc n) = ltb n 32768
 
 -- A distance of 32 bits, a compass and a clino of 16.
 abbrev pub measureFits : Measure → Bool
-measureFits measure = allHold (ltb (measure .distance) 4294967296 ∷ numberFits (measure .compass) ∷ signedFits (measure .clino) ∷ [])
+measureFits measure = allHold (fits32 (measure .distance) ∷ fits16 (measure .compass) ∷ signedFits (measure .clino) ∷ [])
 
 -- Every field has room in its bits; it may be out of range.
 abbrev pub requestFits : Request → Bool
-requestFits (Open team edit) = allHold (allHold (map numberFits (team ∷ editNumbers edit)) ∷ allHold (map measureFits (editMeasures edit)) ∷ [])
-requestFits (Step team) = numberFits team
-requestFits (Look word) = numberFits word
+requestFits (Open team edit) = allHold (allHold (map fits16 (team ∷ editNumbers edit)) ∷ allHold (map measureFits (editMeasures edit)) ∷ [])
+requestFits (Step team) = fits16 team
+requestFits (Look word) = fits16 word
 
 -- Statement: what is asked for is read back from its frame without loss.
 abbrev pub RequestsReadBack : Type 0

@@ -1,4 +1,4 @@
-// Frames: what a frame asks for, and the bytes of an answer.
+// Frames: what a frame asks for and what answers it, as types; numbers in bytes, and a frame's head.
 use edits::Edit;
 use legs::Measure;
 use tickets::LookAnswer;
@@ -6,9 +6,6 @@ use tickets::StepAnswer;
 
 pub mod numbers; // numbers in bytes, read and put
 pub mod head; // refusals 3 to 5, and the part after the kind
-pub mod fields; // one field, in range or out of it
-pub mod decoding; // the fields of each edit, refusals 10 and 11
-pub mod writing; // an answer's frame
 
 // What a frame asks for: an edit or a step of a team, or a look at a word.
 pub enum Request {

@@ -153,7 +153,7 @@ pub fn read_leg(place: u64, measure: u64) -> Reading
 }
 
 // The rank of each passage.
-const RANKS: [u16; 32] = [
+const RANKS: [u16; Limits::PASSAGES as usize] = [
     3,
     8,
     13,

@@ -3,15 +3,13 @@
 ghost use Prim.Native.Nat.{_≤_};
 ghost use lib.ListN.{length};
 use desk::Room;
+use desk::say;
 use legs::Leg;
 use legs::Reading;
 use tickets::Phase;
 use tickets::Ticket;
 use tickets::Tickets;
 use words::Limits;
-
-mod desk;
-mod say;
 
 struct Cases {}
 

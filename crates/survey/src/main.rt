@@ -1,14 +1,18 @@
 // The program: frames from standard input, answers to standard output.
 ghost use mathlib.Core.Path.{_≡_};
-ghost use Prim.Native.Nat.{_+_, _-_, _≤_};
+ghost use Prim.Native.Nat.{_+_, _-_, _<_, _≤_};
 ghost use lib.ListN.{length, take};
+ghost use Rattle.words.specs.Words.{wordsInBook};
 ghost use Rattle.frames.specs.declared.Answer.the-variants.{Refused};
 ghost use Rattle.frames.specs.Answers.{answerFrame, longestAnswer, written};
-ghost use Rattle.book.specs.Stream.{streamOf};
-ghost use Rattle.survey.specs.Program.{goesOn, shifted, servedBy};
-use book::Stop;
-use book::Streamed;
+ghost use Rattle.frames.specs.Fields.{longestFrame};
+ghost use Rattle.calls.specs.Stream.{streamOf, Roomy};
+ghost use Rattle.calls.specs.Pieces.{goesOn};
+ghost use Rattle.survey.specs.Program.{shifted, servedBy};
+use calls::Stop;
+use calls::Streamed;
 use frames::Answer;
+use frames::Frame;
 use frames::Refusal;
 use libc::STDIN_FILENO;
 use libc::STDOUT_FILENO;
@@ -20,8 +24,8 @@ struct Buffers {}
 impl Buffers {
     const INPUT: usize = 65536;
 
-    // Room for every answer to a full input: a frame of 2 bytes gets an answer of 6.
-    const OUTPUT: usize = 3 * Buffers::INPUT + Answer::LONGEST;
+    // Room for every answer: a frame has at least 2 bytes, an answer at most 12.
+    const OUTPUT: usize = Answer::LONGEST / Frame::FIELD * Buffers::INPUT;
 }
 
 // What came of one read: the tickets, how many bytes of a frame not yet whole stand at the front, how many bytes to
@@ -37,7 +41,7 @@ fn torn_answer(out: &mut [u8]) -> usize
     requires { ⌜ longestAnswer ≤ length (now out) ⌝ }
     ensures { λ r. ⌜ ((r, now (out .exit)) ≡ written (now (out .entry)) (answerFrame (Refused 3))) × (r ≤ longestAnswer) ⌝ }
 {
-    frames::writing::write_answer(out, Answer::Refused(Refusal::TORN))
+    encoder::write_answer(out, Answer::Refused(Refusal::TORN))
 }
 
 // A torn last frame, or a length field above 62.
@@ -54,9 +58,10 @@ fn write_front(out: &[u8], count: usize)
     io::write_all(STDOUT_FILENO, &out[0..count]);
 }
 
-// Reads what there is behind the first `have` bytes, which stay; how many came.
+// Reads what there is behind the first `have` bytes, which stay; how many came. There is room for one at least, so that
+// 0 is the end of the input or a read that failed.
 fn read_more(buffer: &mut [u8], have: usize) -> usize
-    requires { ⌜ have ≤ length (now buffer) ⌝ }
+    requires { ⌜ have < length (now buffer) ⌝ }
     ensures { λ r. ⌜ (have + r ≤ length (now (buffer .entry))) × (take have (now (buffer .exit)) ≡ take have (now (buffer .entry))) ⌝ }
 {
     let rest = &mut buffer[have..];
@@ -111,8 +116,8 @@ fn serve_front(
     have: usize,
     out: &mut [u8],
 ) -> Served
-    requires { ⌜ have ≤ length (now buffer) ⌝ }
-    ensures bounds { λ r. ⌜ (r .have ≤ have) × (r .written ≤ length (now (out .entry))) ⌝ }
+    requires { ⌜ (have ≤ length (now buffer)) × (length (now book) ≡ wordsInBook) × Roomy (now buffer) (now out) ⌝ }
+    ensures bounds { λ r. ⌜ (r .have ≤ have) × (r .have < longestFrame) × (r .written ≤ length (now (out .entry))) ⌝ }
     ensures all { λ r. ⌜ (r, now (book .exit), now (buffer .exit), now (out .exit)) ≡ servedBy (now (book .entry)) tickets (now (buffer .entry)) have (now (out .entry)) ⌝ }
 {
     let answered = stream_front(book, tickets, buffer, have, out);
@@ -143,8 +148,8 @@ fn serve_some(
     have: usize,
     out: &mut [u8],
 ) -> Served
-    requires { ⌜ (have ≤ length (now buffer)) × (longestAnswer ≤ length (now out)) ⌝ }
-    ensures { λ r. ⌜ r .have ≤ length (now (buffer .entry)) ⌝ }
+    requires { ⌜ (have < longestFrame) × (longestFrame ≤ length (now buffer)) × (length (now book) ≡ wordsInBook) × Roomy (now buffer) (now out) ⌝ }
+    ensures { λ r. ⌜ r .have < longestFrame ⌝ }
 {
     let got = read_more(buffer, have);
     if got == 0 {
@@ -167,20 +172,27 @@ fn serve_some(
     served
 }
 
-fn main() {
-    let mut book = [0u64; Limits::WORDS];
+// Turn after turn, to the end of the input or a length field above 62.
+fn serve_all(book: &mut [u64], buffer: &mut [u8], out: &mut [u8])
+    requires { ⌜ (longestFrame ≤ length (now buffer)) × (length (now book) ≡ wordsInBook) × Roomy (now buffer) (now out) ⌝ }
+{
     let mut tickets = Tickets::fresh();
-    let mut buffer = [0u8; Buffers::INPUT];
-    let mut out = [0u8; Buffers::OUTPUT];
     let mut have: usize = 0;
     let mut turns: u64 = 18446744073709551615;
     while 0 < turns {
         turns -= 1;
-        let served = serve_some(&mut book, tickets, &mut buffer, have, &mut out);
+        let served = serve_some(book, tickets, buffer, have, out);
         if !served.on {
             return;
         }
         tickets = served.tickets;
         have = served.have;
     }
+}
+
+fn main() {
+    let mut book = [0u64; Limits::WORDS];
+    let mut buffer = [0u8; Buffers::INPUT];
+    let mut out = [0u8; Buffers::OUTPUT];
+    serve_all(&mut book, &mut buffer, &mut out);
 }

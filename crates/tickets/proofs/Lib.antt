@@ -9,5 +9,6 @@ pub mod Opening
 pub mod Stepping
 pub mod Looking
 pub mod WellMade
+pub mod After
 pub mod Tries
 mod Examples

@@ -58,7 +58,7 @@ HeldTarget Claiming ticket k = k < ticket .claimed
 HeldTarget Putting ticket k = (ticket .done ≤ k) × (k < ticket .n)
 HeldTarget GivingBack ticket k = (ticket .done ≤ k) × (k < ticket .claimed)
 
--- Of a fit ticket these are the targets that are claimed and not done.
+-- Statement: of a fit ticket these are the targets that are claimed and not done.
 abbrev pub HeldByPhase : Type 0
 HeldByPhase = (size : ℕ) (ticket : Ticket) (k : ℕ)
     → FitTicket size ticket
@@ -82,7 +82,7 @@ pub record Invariant (words : Words) (tickets : ℕ → Ticket) (plain : ℕ →
   pub free : (word : ℕ) → word < length words → readOf words word < 2 ^ 63 → readOf words word ≡ plain word
   pub owned : (word : ℕ) → word < length words → 2 ^ 63 ≤ readOf words word → Holder tickets word
 
--- So no two teams hold one word.
+-- Statement: so no two teams hold one word.
 abbrev pub OneHolder : Type 0
 OneHolder = (words : Words) (tickets : ℕ → Ticket) (plain : ℕ → ℕ) (team other word value another : ℕ)
     → Invariant words tickets plain
@@ -90,14 +90,14 @@ OneHolder = (words : Words) (tickets : ℕ → Ticket) (plain : ℕ → ℕ) (te
     → Holds (tickets other) word another
     → team ≡ other
 
--- Only the plain words of the book's words matter.
+-- Statement: only the plain words of the book's words matter.
 abbrev pub PlainAlike : Type 0
 PlainAlike = (words : Words) (tickets : ℕ → Ticket) (plain alike : ℕ → ℕ)
     → Invariant words tickets plain
     → ((word : ℕ) → word < length words → alike word ≡ plain word)
     → Invariant words tickets alike
 
--- It holds at the start: zero words, no ticket, plain words of zero.
+-- Statement: it holds at the start: zero words, no ticket, plain words of zero.
 abbrev pub HoldsAtStart : Type 0
 HoldsAtStart = (size : ℕ) (tickets : ℕ → Ticket) (plain : ℕ → ℕ)
     → ((team : ℕ) → tickets team .phase ≡ NoTicket)
@@ -111,7 +111,7 @@ pub record OpenedTicket (size : ℕ) (ticket : Ticket) : Type 0 where
   pub none-done : ticket .done ≡ 0
   pub claimable : Claimable size (targetsIn ticket)
 
--- Opening a ticket for a team that has none keeps it, with the same words and the same plain words.
+-- Statement: opening a ticket for a team that has none keeps it, with the same words and the same plain words.
 abbrev pub OpeningKeeps : Type 0
 OpeningKeeps = (words : Words) (tickets : ℕ → Ticket) (plain : ℕ → ℕ) (team : ℕ) (opened : Ticket)
     → Invariant words tickets plain
@@ -175,7 +175,7 @@ pub data StepKept (words : Words) (tickets : ℕ → Ticket) (plain : ℕ → �
       → Leaves words tickets team plain noTicket (Stale (targetAt ticket (ticket .claimed) .word) (oneMoreTry (ticket .tries)))
       → StepKept words tickets plain team ticket
 
--- Every step of a standing ticket does one of these.
+-- Statement: every step of a standing ticket does one of these.
 abbrev pub StepKeeps : Type 0
 StepKeeps = (words : Words) (tickets : ℕ → Ticket) (plain : ℕ → ℕ) (team : ℕ)
     → Invariant words tickets plain
@@ -187,13 +187,14 @@ abbrev pub LookRight : (ℕ → Ticket) → (ℕ → ℕ) → ℕ → LookAnswer
 LookRight tickets plain word (Value value) = value ≡ plain word
 LookRight tickets plain word Held = Holder tickets word
 
+-- Statement: every look is right.
 abbrev pub LooksRight : Type 0
 LooksRight = (words : Words) (tickets : ℕ → Ticket) (plain : ℕ → ℕ) (word : ℕ)
     → Invariant words tickets plain
     → word < length words
     → LookRight tickets plain word (lookOf words word)
 
--- A word that nobody holds is the plain word.
+-- Statement: a word that nobody holds is the plain word.
 abbrev pub UnheldPlain : Type 0
 UnheldPlain = (words : Words) (tickets : ℕ → Ticket) (plain : ℕ → ℕ) (word : ℕ)
     → Invariant words tickets plain
@@ -201,22 +202,22 @@ UnheldPlain = (words : Words) (tickets : ℕ → Ticket) (plain : ℕ → ℕ) (
     → (Holder tickets word → ⊥)
     → readOf words word ≡ plain word
 
--- Every put and every return finds its team's mark, so that its swap is done.
+-- Statement: every put and every return finds its team's mark, so that its swap is done.
 abbrev pub MarkFound : Type 0
 MarkFound = (words : Words) (tickets : ℕ → Ticket) (plain : ℕ → ℕ) (team : ℕ)
     → Invariant words tickets plain
     → (tickets team .phase ≡ Putting) ⊎ (tickets team .phase ≡ GivingBack)
     → readOf words (swapTried (tickets team) team .word) ≡ swapTried (tickets team) team .expected
 
--- In a book of 4,096 words every standing ticket is well made.
+-- Statement: in a book of 4,096 words every standing ticket is well made.
 abbrev pub FitWellMade : Type 0
 FitWellMade = (ticket : Ticket) → FitSlot wordsInBook ticket → hasTicket (ticket .phase) ≡ true → wellMade ticket ≡ true
 
--- Of any words, not only those of the invariant: a step keeps the number of words,
+-- Statement: of any words, not only those of the invariant, a step keeps the number of words,
 abbrev pub LengthKept : Type 0
 LengthKept = (words : Words) (ticket : Ticket) (team : ℕ) → length (stepOf words ticket team .1) ≡ length words
 
--- and leaves a well-made ticket well made, or gone.
+-- Statement: and leaves a well-made ticket well made, or gone.
 abbrev pub WellMadeKept : Type 0
 WellMadeKept = (words : Words) (ticket : Ticket) (team : ℕ)
     → wellMade ticket ≡ true
@@ -232,12 +233,12 @@ TriesTold tries (Returned k) after = (hasTicket (after .phase) ≡ true) × (aft
 TriesTold tries (Granted told) after = (after ≡ noTicket) × (told ≡ tries)
 TriesTold tries (Stale word told) after = (after ≡ noTicket) × (told ≡ tries)
 
--- Every step counts one try more.
+-- Statement: every step counts one try more.
 abbrev pub TriesCounted : Type 0
 TriesCounted = (words : Words) (ticket : Ticket) (team : ℕ)
     → hasTicket (ticket .phase) ≡ true
     → TriesTold (oneMoreTry (ticket .tries)) (stepOf words ticket team .0 .answer) (stepOf words ticket team .0 .ticket)
 
--- So after so many steps from 0 the tries are those steps, up to the stop.
+-- Statement: where the tries are the steps so far, up to the stop, they are so after one step more.
 abbrev pub TriesStop : Type 0
 TriesStop = (tries steps : ℕ) → tries ≡ min steps mostTries → oneMoreTry tries ≡ min (steps + 1) mostTries

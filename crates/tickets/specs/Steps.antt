@@ -1,6 +1,6 @@
 -- "Tickets and steps": one step is one conditional swap; a look is one read.
-use Prim.Native.Nat.{ℕ, _+_}
-use mathlib.Core.Bool.{cond}
+use Prim.Native.Nat.{ℕ, _+_, _<_}
+use mathlib.Core.Bool.{Bool, true, false, cond}
 use lib.Dec.{eqb, ltb}
 use Rattle.words.specs.Words.{Words, isHeld, markOf, readOf, swapOf}
 use Rattle.tickets.specs.Tickets.{noTicket, targetAt}
@@ -15,6 +15,7 @@ use Rattle.tickets.specs.declared.LookAnswer.{LookAnswer}
 use Rattle.tickets.specs.declared.LookAnswer.the-variants.{Held, Value}
 use Rattle.tickets.specs.declared.Stepped.{Stepped}
 
+-- A conditional swap of a word, from an expected to a desired value.
 abbrev pub tries : ℕ → ℕ → ℕ → SwapTried
 tries word expected desired = record { word = word; expected = expected; desired = desired }
 
@@ -89,7 +90,7 @@ givenBack ticket =
     (stepped noTicket (Stale (targetAt ticket (ticket .claimed) .word) (oneMoreTry (ticket .tries))))
     (stepped (advanced ticket GivingBack (ticket .claimed) more) (Returned more))
 
--- The ticket and the answer after the swap, by the phase and the word found.
+-- The ticket and the answer after the swap, by the phase and the word found. (No ticket takes no step: its case makes the definition total.)
 abbrev pub settledIn : Phase → Ticket → ℕ → Stepped
 settledIn Claiming ticket found =
     cond (eqb found (targetAt ticket (ticket .claimed) .quoted)) (claimed ticket)
@@ -101,6 +102,36 @@ settledIn NoTicket ticket found = givenBack ticket
 
 unfoldable pub settled : Ticket → ℕ → Stepped
 settled ticket found = settledIn (ticket .phase) ticket found
+
+-- Whether a ticket is gone with an answer: "a finished ticket is gone".
+abbrev pub finishes : StepAnswer → Bool
+finishes (Claimed many) = false
+finishes (Waiting word) = false
+finishes (Found word) = false
+finishes (Put many) = false
+finishes (Returned many) = false
+finishes (Granted tries) = true
+finishes (Stale word tries) = true
+
+-- The ticket that a step leaves, by the answer alone.
+abbrev pub afterAnswer : Ticket → StepAnswer → Ticket
+afterAnswer ticket (Claimed many) = claimed ticket .ticket
+afterAnswer ticket (Waiting word) = advanced ticket Claiming (ticket .claimed) (ticket .done)
+afterAnswer ticket (Found word) = advanced ticket GivingBack (ticket .claimed) 0
+afterAnswer ticket (Put many) = advanced ticket Putting (ticket .claimed) (ticket .done + 1)
+afterAnswer ticket (Returned many) = advanced ticket GivingBack (ticket .claimed) (ticket .done + 1)
+afterAnswer ticket (Granted tries) = noTicket
+afterAnswer ticket (Stale word tries) = noTicket
+
+-- What an answer says of the counts that the ticket had: there was one more to claim, and after this one, one to put or to give back.
+abbrev pub AnswerFits : Ticket → StepAnswer → Type 0
+AnswerFits ticket (Claimed many) = ticket .claimed < ticket .n
+AnswerFits ticket (Waiting word) = Unit {0}
+AnswerFits ticket (Found word) = Unit {0}
+AnswerFits ticket (Put many) = ticket .done + 1 < ticket .n
+AnswerFits ticket (Returned many) = ticket .done + 1 < ticket .claimed
+AnswerFits ticket (Granted tries) = Unit {0}
+AnswerFits ticket (Stale word tries) = Unit {0}
 
 -- A step is one conditional swap: the one that the ticket tries. What it found settles the ticket and the answer.
 unfoldable pub stepOf : Words → Ticket → ℕ → Stepped × Words

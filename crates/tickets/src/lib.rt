@@ -1,12 +1,12 @@
 // Tickets, one step of a ticket, and one look.
 ghost use mathlib.Core.Path.{_≡_};
-ghost use mathlib.Core.Bool.{Bool, true};
+ghost use mathlib.Core.Bool.{Bool, true, false};
 ghost use Prim.Native.Nat.{ℕ, _+_, _≤_, _<_};
 ghost use lib.ListN.{length};
 ghost use Rattle.words.specs.Words.{wordsInBook, teamCount, mostTargets};
 ghost use Rattle.tickets.specs.declared.Phase.the-variants.{Claiming};
 ghost use Rattle.tickets.specs.Tickets.{noTicket, freshTickets, targetAt, hasTicket, targetWellMade, countsWellMade, wellMade};
-ghost use Rattle.tickets.specs.Steps.{tries, oneMoreTry, advanced, swapTried, claimed, put, givenBack, settledIn, settled, stepOf, lookOf};
+ghost use Rattle.tickets.specs.Steps.{tries, oneMoreTry, advanced, swapTried, stepped, claimed, put, givenBack, settledIn, settled, finishes, afterAnswer, AnswerFits, stepOf, lookOf};
 use words::Limits;
 
 // A word, the value that the edit quotes for it (in the source document: expected) and its new value (desired).
@@ -65,7 +65,8 @@ pub enum LookAnswer {
     Value(u64),
 }
 
-// A ticket after a step, and the step's answer.
+// A ticket after a step, and the step's answer, as the definitions have them together. The code hands on the answer
+// alone, which says what becomes of the ticket.
 pub struct Stepped {
     pub ticket: Ticket,
     pub answer: StepAnswer,
@@ -277,82 +278,114 @@ impl Ticket {
         }
     }
 
-    fn after_claim(self, found: u64) -> Stepped
+    // The answer of a step whose swap, while claiming, found a word.
+    fn claim_answer(self, found: u64) -> StepAnswer
         requires { ⌜ (self .claimed < self .n) × (self .n ≤ mostTargets) ⌝ }
-        ensures { λ r. ⌜ r ≡ settledIn Claiming self found ⌝ }
+        ensures { λ r. ⌜ r ≡ settledIn Claiming self found .answer ⌝ }
     {
         let next = self.target(self.claimed);
         if found == next.quoted {
-            return Stepped {
-                ticket: self.claim(),
-                answer: StepAnswer::Claimed(self.claimed + 1),
-            };
+            return StepAnswer::Claimed(self.claimed + 1);
         }
         if words::is_held(found) {
-            return Stepped {
-                ticket: self.advanced(Phase::Claiming, self.claimed, self.done),
-                answer: StepAnswer::Waiting(next.word),
-            };
+            return StepAnswer::Waiting(next.word);
         }
         if self.claimed == 0 {
-            return Stepped {
-                ticket: Ticket::none(),
-                answer: StepAnswer::Stale(next.word, self.tried()),
-            };
+            return StepAnswer::Stale(next.word, self.tried());
         }
-        Stepped {
-            ticket: self.advanced(Phase::GivingBack, self.claimed, 0),
-            answer: StepAnswer::Found(next.word),
-        }
+        StepAnswer::Found(next.word)
     }
 
-    fn after_put(self) -> Stepped
+    fn put_answer(self) -> StepAnswer
         requires { ⌜ self .done < self .n ⌝ }
-        ensures { λ r. ⌜ r ≡ put self ⌝ }
+        ensures { λ r. ⌜ r ≡ put self .answer ⌝ }
     {
         let put = self.done + 1;
         if put == self.n {
-            return Stepped {
-                ticket: self.put(),
-                answer: StepAnswer::Granted(self.tried()),
-            };
+            return StepAnswer::Granted(self.tried());
         }
-        Stepped {
-            ticket: self.put(),
-            answer: StepAnswer::Put(put),
-        }
+        StepAnswer::Put(put)
     }
 
     // The last names the word that differed, the first not claimed.
-    fn after_give_back(self) -> Stepped
+    fn give_back_answer(self) -> StepAnswer
         requires { ⌜ (self .done < self .claimed) × (self .claimed < mostTargets) ⌝ }
-        ensures { λ r. ⌜ r ≡ givenBack self ⌝ }
+        ensures { λ r. ⌜ r ≡ givenBack self .answer ⌝ }
     {
         let returned = self.done + 1;
         if returned == self.claimed {
             let differed = self.target(self.claimed);
-            return Stepped {
-                ticket: self.give_back(),
-                answer: StepAnswer::Stale(differed.word, self.tried()),
-            };
+            return StepAnswer::Stale(differed.word, self.tried());
         }
-        Stepped {
-            ticket: self.give_back(),
-            answer: StepAnswer::Returned(returned),
-        }
+        StepAnswer::Returned(returned)
     }
 
-    // The ticket and the answer after its swap, by the word found.
-    pub fn settle(self, found: u64) -> Stepped
+    // The answer of a step whose swap found a word.
+    fn answer(self, found: u64) -> StepAnswer
         requires { ⌜ wellMade self ≡ true ⌝ }
-        ensures { λ r. ⌜ r ≡ settled self found ⌝ }
+        ensures { λ r. ⌜ r ≡ settled self found .answer ⌝ }
     {
         let phase = self.phase;
         match phase {
-            Phase::Claiming => self.after_claim(found),
-            Phase::Putting => self.after_put(),
-            Phase::GivingBack => self.after_give_back(),
-            Phase::NoTicket => self.after_give_back(),
+            Phase::Claiming => self.claim_answer(found),
+            Phase::Putting => self.put_answer(),
+            Phase::GivingBack => self.give_back_answer(),
+            Phase::NoTicket => self.give_back_answer(),
+        }
+    }
+
+    // The ticket advanced by a step that goes on, by its answer.
+    fn advanced_by(self, answer: StepAnswer) -> Ticket
+        requires { ⌜ (finishes answer ≡ false) × AnswerFits self answer ⌝ }
+        ensures { λ r. ⌜ r ≡ afterAnswer self answer ⌝ }
+    {
+        match answer {
+            StepAnswer::Claimed(many) => self.claim(),
+            StepAnswer::Waiting(word) => self.advanced(Phase::Claiming, self.claimed, self.done),
+            StepAnswer::Found(word) => self.advanced(Phase::GivingBack, self.claimed, 0),
+            StepAnswer::Put(many) => self.put(),
+            StepAnswer::Returned(many) => self.give_back(),
+            StepAnswer::Granted(tries) => Ticket::none(),
+            StepAnswer::Stale(word, tries) => Ticket::none(),
+        }
+    }
+
+    // The same, as its own targets with the counts of the ticket advanced: stored in its slot, it copies no target.
+    pub fn after(self, answer: StepAnswer) -> Ticket
+        requires { ⌜ (finishes answer ≡ false) × AnswerFits self answer ⌝ }
+        ensures { λ r. ⌜ r ≡ afterAnswer self answer ⌝ }
+    {
+        let next = self.advanced_by(answer);
+        let phase = next.phase;
+        let quoted = self.quoted;
+        let new = self.new;
+        let words = self.words;
+        Ticket {
+            quoted: quoted,
+            new: new,
+            words: words,
+            n: self.n,
+            tries: next.tries,
+            claimed: next.claimed,
+            done: next.done,
+            phase: phase,
+        }
+    }
+}
+
+impl StepAnswer {
+    // Whether the ticket is gone with it.
+    pub fn finishes(self) -> bool
+        ensures { λ r. ⌜ r ≡ finishes self ⌝ }
+    {
+        match self {
+            StepAnswer::Claimed(many) => false,
+            StepAnswer::Waiting(word) => false,
+            StepAnswer::Found(word) => false,
+            StepAnswer::Put(many) => false,
+            StepAnswer::Returned(many) => false,
+            StepAnswer::Granted(tries) => true,
+            StepAnswer::Stale(word, tries) => true,
         }
     }
 }
@@ -368,15 +401,16 @@ impl Tickets {
     }
 }
 
-// One step of a team's ticket: one conditional swap.
-pub fn step(book: &mut [u64], ticket: Ticket, team: u16) -> Stepped
+// One step of a team's ticket: one conditional swap, and its answer, which says what becomes of the ticket.
+pub fn step(book: &mut [u64], ticket: Ticket, team: u16) -> StepAnswer
     requires { ⌜ (length (now book) ≡ wordsInBook) × (wellMade ticket ≡ true) × (team < teamCount) ⌝ }
-    ensures { λ r. ⌜ (r, now (book .exit)) ≡ stepOf (now (book .entry)) ticket team ⌝ }
+    ensures step { λ r. ⌜ (stepped (afterAnswer ticket r) r, now (book .exit)) ≡ stepOf (now (book .entry)) ticket team ⌝ }
+    ensures fits { λ r. ⌜ AnswerFits ticket r ⌝ }
 {
     let tried = ticket.swap_tried(team);
     let at = tried.word as usize;
     let found = words::conditional_swap(book, at, tried.expected, tried.desired);
-    ticket.settle(found)
+    ticket.answer(found)
 }
 
 // One look at a word: one read.

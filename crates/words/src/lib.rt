@@ -5,7 +5,7 @@ ghost use Prim.Native.Nat.{_≤_, _<_};
 ghost use lib.ListN.{length};
 ghost use Rattle.words.specs.Words.{teamCount, passageCount, lastLeg, isHeld, markOf, newestWord, countWord, linkWord, placeWord, measureWord, readOf, swapOf};
 
-// Every limit of the book stands here, once.
+// The limits of the book and its layout.
 pub struct Limits {}
 
 impl Limits {

@@ -7,7 +7,7 @@ use lib.ListN.{length}
 use Rattle.words.specs.Words.{teamCount}
 use Rattle.frames.specs.Requests.{partAfterKind, teamIn}
 use Rattle.frames.specs.Fields.{Whole}
-use Rattle.book.specs.declared.Aim.the-variants as Aim
+use Rattle.calls.specs.declared.Aim.the-variants as Aim
 use Rattle.book.proofs.Going.{aim-look, aim-team, aim-nobody, team-inside}
 use borrow.Author.Needs.{needs}
 use Rattle.book.proofs.aim_by_kind.Statement.{statement}

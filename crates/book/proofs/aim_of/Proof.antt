@@ -2,7 +2,7 @@
 use mathlib.Core.Path.{sym, ap, subst, _∙_}
 use denote.Ref.{now}
 use Rattle.frames.specs.Fields.{WholeIfKnown}
-use Rattle.book.specs.Way.{aimBy, aimOf}
+use Rattle.calls.specs.Way.{aimBy, aimOf}
 use borrow.Author.Needs.{needs}
 use Rattle.book.proofs.aim_of.Statement.{statement}
 use Rattle.book.proofs.aim_of.Tie as tie

@@ -1,35 +1,51 @@
 -- `book::answer_frames` meets its contract. The loop's invariant: what the definition makes of what is left is what it makes of the whole.
 use borrow.Author.Needs.{needs}
 use native.Mathlib.Omega.{arith}
+use mathlib.Core.Bool.{true}
 use mathlib.Core.Path.{_≡_, refl, sym, ap, subst, _∙_}
 use Prim.Native.Nat.{ℕ, _+_, _-_, _<_, _≤_}
 use denote.Ref.{now}
 use lib.ListN.{length, take, drop}
 use Rattle.words.specs.Words.{Words, wordsInBook}
 use Rattle.frames.specs.Numbers.{Bytes}
-use Rattle.book.specs.declared.Stop.the-variants.{MoreInput}
+use Rattle.calls.specs.declared.Stop.the-variants.{MoreInput}
 use Rattle.tickets.specs.Tickets.{ticketOf}
-use Rattle.book.specs.Way.{aimOf, settledBy}
-use Rattle.book.specs.Stream.{NextInside, roomIn, streamed, stoppedOr, streamFrom}
-use Rattle.book.proofs.Going.{slot-known}
-use Rattle.book.proofs.Sending.{call-by}
-use Rattle.book.proofs.Streaming.{ends, stops, full, goes, after, room-long, add-less}
+use Rattle.frames.specs.Requests.{partAfterKind}
+use Rattle.frames.specs.declared.Answer.the-variants as Answer
+use Rattle.calls.specs.Way.{settled, OutcomeKnown, TableWellMade}
+use Rattle.calls.specs.Stream.{NextInside, roomIn, streamed, stoppedOr, streamFrom}
+use Rattle.calls.proofs.Way.{slot-same}
+use Rattle.calls.proofs.WellMadeTables.{each-byte, all-well-made}
+use Rattle.book.proofs.Going.{slot-known, gone-after}
+use Rattle.book.proofs.Turning.{frameAt, turned, turned-well-made}
+use Rattle.calls.proofs.Streaming.{ends, stops, full}
 use Rattle.book.proofs.answer_frames.Statement.{statement}
 use Rattle.book.proofs.answer_frames.Tie as tie
 
 abbrev Inv-loop : tie.InvT-loop
-Inv-loop book₀ input out₀ tickets₀ at₀ w₀ left₀ book out tickets at w left =
+Inv-loop book₀ input out₀ tickets₀ known at₀ filled₀ left₀ book out tickets at filled left =
     (length book ≡ wordsInBook)
     × (at ≤ length input)
-    × (w ≤ length out)
+    × (filled ≤ length out)
     × (length out ≡ length out₀)
-    × (streamFrom left book tickets input out at w ≡ streamFrom (length input) book₀ tickets₀ input out₀ 0 0)
+    × (streamFrom left book tickets input out at filled ≡ streamFrom (length input) book₀ tickets₀ input out₀ 0 0)
+    × (known ≡ true → TableWellMade tickets)
 
 abbrev μ-loop : tie.MeasureT-loop
-μ-loop book₀ input out₀ tickets₀ at₀ w₀ left₀ book out tickets at w left = left
+μ-loop book₀ input out₀ tickets₀ known at₀ filled₀ left₀ book out tickets at filled left = left
+
+all-well-made-requires : tie.Need-all-well-made-requires Inv-loop μ-loop
+all-well-made-requires c κs = search needs
 
 loop-holds : tie.Need-loop-holds Inv-loop μ-loop
-loop-holds c = search needs
+loop-holds c = (
+  search needs,
+  search needs,
+  search needs,
+  search needs,
+  search needs,
+  λ known. all-well-made _ (sym (c .all-well-made .ensures) ∙ known),
+)
 
 sub-left : tie.Need-sub-left Inv-loop μ-loop
 sub-left c = search needs
@@ -46,6 +62,9 @@ enum-told c = search needs
 stop-of-requires : tie.Need-stop-of-requires Inv-loop μ-loop
 stop-of-requires c κs = search needs
 
+stopped-requires : tie.Need-stopped-requires Inv-loop μ-loop
+stopped-requires c κs = search needs
+
 same-length : tie.Need-same-length Inv-loop μ-loop
 same-length c = search needs
 
@@ -54,17 +73,23 @@ same-length-2 c = search needs
 
 returns : tie.Need-returns Inv-loop μ-loop
 returns c =
-    let loop = c .before .before .before .before .before .loop in
-    let told = c .before .enum-told .given in
-    let stop = c .stop-of .ensures ∙ ap (λ n. stoppedOr n (λ s. s) (λ size. MoreInput)) (told .1) in (
-      (loop .inv .1, omega (arith, loop .inv .2, loop .inv .3)),
-      (λ i. (streamed (loop .tickets) (loop .at) (loop .w) (stop i), loop .book, loop .out))
-          ∙ sym (stops (loop .book) (loop .tickets) (now (c .before .before .before .before .before .before .before .before .before .args .input)) (loop .out) (loop .at) (loop .w) (loop .left) (told .0 .0) (c .before .before .before .before .loop-test .taken) (sym (c .before .before .before .next-frame .ensures .0) ∙ told .1))
+    let loop = c .before .before .before .before .before .before .loop in
+    let input = now (c .before .before .before .before .before .before .before .before .before .before .before .args .input) in
+    let told = c .before .before .enum-told .given in
+    let stop = c .before .stop-of .ensures ∙ ap (λ n. stoppedOr n (λ s. s) (λ size. MoreInput)) (told .1) in
+    let is = c .stopped .ensures in (
+      (omega (arith, ap (λ r. r .consumed) is, loop .inv .1), omega (arith, ap (λ r. r .written) is, loop .inv .2, loop .inv .3)),
+      (λ i. (is i, loop .book, loop .out))
+          ∙ (λ i. (streamed (loop .tickets) (loop .at) (loop .filled) (stop i), loop .book, loop .out))
+          ∙ sym (stops (loop .book) (loop .tickets) input (loop .out) (loop .at) (loop .filled) (loop .left) (told .0 .0) (c .before .before .before .before .before .loop-test .taken) (sym (c .before .before .before .before .next-frame .ensures .0) ∙ told .1))
           ∙ loop .inv .4,
     )
 
 sub-if1 : tie.Need-sub-if1 Inv-loop μ-loop
 sub-if1 c = search needs
+
+stopped-requires-2 : tie.Need-stopped-requires-2 Inv-loop μ-loop
+stopped-requires-2 c κs = search needs
 
 same-length-3 : tie.Need-same-length-3 Inv-loop μ-loop
 same-length-3 c = search needs
@@ -74,16 +99,20 @@ same-length-4 c = search needs
 
 returns-2 : tie.Need-returns-2 Inv-loop μ-loop
 returns-2 c =
-    let loop = c .before .before .before .before .before .before .loop in
-    let next = sym (c .before .before .before .before .next-frame .ensures .0) ∙ c .before .before .next .given .1 in (
-      (loop .inv .1, omega (arith, loop .inv .2, loop .inv .3)),
-      sym (full (loop .book) (loop .tickets) (now (c .before .before .before .before .before .before .before .before .before .before .args .input)) (loop .out) (loop .at) (loop .w) (loop .left) (c .before .before .next .given .0 .0) (c .before .before .before .before .before .loop-test .taken) next (c .if1 .taken))
+    let loop = c .before .before .before .before .before .before .before .loop in
+    let input = now (c .before .before .before .before .before .before .before .before .before .before .before .before .args .input) in
+    let given = c .before .before .before .next .given in
+    let next = sym (c .before .before .before .before .before .next-frame .ensures .0) ∙ given .1 in
+    let is = c .stopped2 .ensures in (
+      (omega (arith, ap (λ r. r .consumed) is, loop .inv .1), omega (arith, ap (λ r. r .written) is, loop .inv .2, loop .inv .3)),
+      (λ i. (is i, loop .book, loop .out))
+          ∙ sym (full (loop .book) (loop .tickets) input (loop .out) (loop .at) (loop .filled) (loop .left) (given .0 .0) (c .before .before .before .before .before .before .loop-test .taken) next (c .before .if1 .taken))
           ∙ loop .inv .4,
     )
 
 add-end : tie.Need-add-end Inv-loop μ-loop
 add-end c =
-    let inside = subst (NextInside (now (c .before .before .before .before .before .before .before .before .before .before .args .input)) (c .before .before .before .before .before .before .loop .at)) (c .before .before .next .given .1) (c .before .before .before .before .next-frame .ensures .1) in
+    let inside = subst (NextInside (now (c .before .before .before .before .before .before .before .before .before .before .before .args .input)) (c .before .before .before .before .before .before .loop .at)) (c .before .before .next .given .1) (c .before .before .before .before .next-frame .ensures .1) in
     omega (arith, inside .1)
 
 sub-frame : tie.Need-sub-frame Inv-loop μ-loop
@@ -94,14 +123,14 @@ part-frame-start c = search needs
 
 part-frame-end : tie.Need-part-frame-end Inv-loop μ-loop
 part-frame-end c =
-    let inside = subst (NextInside (now (c .before .before .before .before .before .before .before .before .before .before .args .input)) (c .before .before .before .before .before .before .loop .at)) (c .before .before .next .given .1) (c .before .before .before .before .next-frame .ensures .1) in
+    let inside = subst (NextInside (now (c .before .before .before .before .before .before .before .before .before .before .before .args .input)) (c .before .before .before .before .before .before .loop .at)) (c .before .before .next .given .1) (c .before .before .before .before .next-frame .ensures .1) in
     inside .1
 
 aim-of-requires : tie.Need-aim-of-requires Inv-loop μ-loop
 aim-of-requires c κs = search needs
 
 slot-of-requires : tie.Need-slot-of-requires Inv-loop μ-loop
-slot-of-requires c κs = slot-known (take (c .before .before .before .before .before .before .before .before .loop .at + c .before .before .before .before .next .given .0 .0 - c .before .before .before .before .before .before .before .before .loop .at) (drop (c .before .before .before .before .before .before .before .before .loop .at) (now (c .before .before .before .before .before .before .before .before .before .before .before .before .args .input)))) (c .aim-of .result) (c .aim-of .ensures .1)
+slot-of-requires c κs = slot-known (frameAt (now (c .before .before .before .before .before .before .before .before .before .before .before .before .before .args .input)) (c .before .before .before .before .before .before .before .before .loop .at) (c .before .before .before .before .next .given .0 .0)) (c .aim-of .result) (c .aim-of .ensures .1)
 
 mul-ticket : tie.Need-mul-ticket Inv-loop μ-loop
 mul-ticket c = search needs
@@ -110,7 +139,115 @@ element-copy-out-ticket : tie.Need-element-copy-out-ticket Inv-loop μ-loop
 element-copy-out-ticket c = search needs
 
 settle-requires : tie.Need-settle-requires Inv-loop μ-loop
-settle-requires c κs = search needs
+settle-requires c κs = (search needs, search needs, λ known. c .before .before .before .before .before .before .before .before .before .before .before .loop .inv .5 known (c .before .before .slot-of .result) (c .before .before .slot-of .ensures .1))
+
+enum-known-outcome : tie.Need-enum-known-outcome Inv-loop μ-loop
+enum-known-outcome c = search needs
+
+put-answer-requires : tie.Need-put-answer-requires Inv-loop μ-loop
+put-answer-requires c κs = search needs
+
+loop-less : tie.Need-loop-less Inv-loop μ-loop
+loop-less c = omega (arith, c .before .before .before .before .before .before .before .before .before .before .before .before .before .before .before .before .before .before .before .before .loop-test .taken)
+
+loop-again : tie.Need-loop-again Inv-loop μ-loop
+loop-again c =
+    let loop = c .before .before .before .before .before .before .before .before .before .before .before .before .before .before .before .before .before .before .before .before .before .loop in
+    let input = now (c .before .before .before .before .before .before .before .before .before .before .before .before .before .before .before .before .before .before .before .before .before .before .before .before .before .before .args .input) in
+    let size = c .before .before .before .before .before .before .before .before .before .before .before .before .before .before .before .before .before .next .given .0 .0 in
+    let slot = c .before .before .before .before .before .before .before .before .before .before .before .before .slot-of in
+    let outcome = c .before .before .before .before .before .before .before .before .before .settle in
+    let ticket = ticketOf (loop .tickets) (slot .result) in
+    let whole = sym (c .before .before .before .before .before .before .before .before .before .before .before .before .before .before .before .before .before .before .before .next-frame .ensures .0) ∙ c .before .before .before .before .before .before .before .before .before .before .before .before .before .before .before .before .before .next .given .1 in
+    let inside = subst (NextInside input (loop .at)) (c .before .before .before .before .before .before .before .before .before .before .before .before .before .before .before .before .before .next .given .1) (c .before .before .before .before .before .before .before .before .before .before .before .before .before .before .before .before .before .before .before .next-frame .ensures .1) in
+    let room = c .before .before .before .before .before .before .before .before .before .before .before .before .before .before .before .if1 .left in
+    let put = c .before .before .put-answer in (
+      search needs,
+      inside .1,
+      omega (arith, put .ensures .0 .1, put .ensures .1 .1),
+      put .ensures .1 .1 ∙ loop .inv .3,
+      turned (loop .book) (loop .tickets) input (loop .out) (loop .at) (loop .filled) (loop .left) size (c .before .before .before .before .before .before .before .before .before .before .before .before .before .aim-of .result) (slot .result) (outcome .result) _
+          (settled ticket (c .before .before .before .before .before .outcome .given .0 .0))
+          (outcome .last .0) _ (put .result) (put .last .0)
+          (c .before .before .before .before .before .before .before .before .before .before .before .before .before .before .before .before .before .before .before .before .loop-test .taken) whole room (loop .inv .0) (c .before .before .before .before .before .before .before .before .before .before .before .before .before .aim-of .ensures .0) (slot .ensures .0) (outcome .ensures .0)
+          (c .before .before .before .before .before .outcome .given .1)
+          refl
+          (sym (slot-same (loop .tickets) (slot .result)))
+          (put .ensures .0 .0) (put .ensures .1 .0)
+          ∙ loop .inv .4,
+      λ known. turned-well-made (loop .book) (loop .tickets) input (loop .out) (loop .at) (loop .filled) (loop .left) size (c .before .before .before .before .before .before .before .before .before .before .before .before .before .aim-of .result) (slot .result) (outcome .result) _
+          (settled ticket (c .before .before .before .before .before .outcome .given .0 .0))
+          (outcome .last .0) _ (each-byte input (λ place. omega (arith, c .before .before .before .before .before .before .before .before .before .before .before .before .before .before .before .before .before .before .before .before .before .before .before .before .shared-slice-known .given place))) (loop .inv .5 known) (slot .ensures .1) (outcome .ensures .0)
+          (c .before .before .before .before .before .outcome .given .1)
+          refl
+          (sym (slot-same (loop .tickets) (slot .result))),
+    )
+
+enum-known-outcome-2 : tie.Need-enum-known-outcome-2 Inv-loop μ-loop
+enum-known-outcome-2 c = search needs
+
+finishes-requires : tie.Need-finishes-requires Inv-loop μ-loop
+finishes-requires c κs = search needs
+
+none-requires : tie.Need-none-requires Inv-loop μ-loop
+none-requires c κs = search needs
+
+mul-gone : tie.Need-mul-gone Inv-loop μ-loop
+mul-gone c = search needs
+
+element-set-from-gone : tie.Need-element-set-from-gone Inv-loop μ-loop
+element-set-from-gone c = search needs
+
+put-answer-requires-2 : tie.Need-put-answer-requires-2 Inv-loop μ-loop
+put-answer-requires-2 c κs = search needs
+
+loop-less-2 : tie.Need-loop-less-2 Inv-loop μ-loop
+loop-less-2 c = omega (arith, c .before .before .before .before .before .before .before .before .before .before .before .before .before .before .before .before .before .before .before .before .before .before .before .loop-test .taken)
+
+loop-again-2 : tie.Need-loop-again-2 Inv-loop μ-loop
+loop-again-2 c =
+    let loop = c .before .before .before .before .before .before .before .before .before .before .before .before .before .before .before .before .before .before .before .before .before .before .before .before .loop in
+    let input = now (c .before .before .before .before .before .before .before .before .before .before .before .before .before .before .before .before .before .before .before .before .before .before .before .before .before .before .before .before .before .args .input) in
+    let size = c .before .before .before .before .before .before .before .before .before .before .before .before .before .before .before .before .before .before .before .before .next .given .0 .0 in
+    let slot = c .before .before .before .before .before .before .before .before .before .before .before .before .before .before .before .slot-of in
+    let outcome = c .before .before .before .before .before .before .before .before .before .before .before .before .settle in
+    let ticket = ticketOf (loop .tickets) (slot .result) in
+    let whole = sym (c .before .before .before .before .before .before .before .before .before .before .before .before .before .before .before .before .before .before .before .before .before .before .next-frame .ensures .0) ∙ c .before .before .before .before .before .before .before .before .before .before .before .before .before .before .before .before .before .before .before .before .next .given .1 in
+    let inside = subst (NextInside input (loop .at)) (c .before .before .before .before .before .before .before .before .before .before .before .before .before .before .before .before .before .before .before .before .next .given .1) (c .before .before .before .before .before .before .before .before .before .before .before .before .before .before .before .before .before .before .before .before .before .before .next-frame .ensures .1) in
+    let room = c .before .before .before .before .before .before .before .before .before .before .before .before .before .before .before .before .before .before .if1 .left in
+    let put = c .before .before .put-answer2 in (
+      search needs,
+      inside .1,
+      omega (arith, put .ensures .0 .1, put .ensures .1 .1),
+      put .ensures .1 .1 ∙ loop .inv .3,
+      turned (loop .book) (loop .tickets) input (loop .out) (loop .at) (loop .filled) (loop .left) size (c .before .before .before .before .before .before .before .before .before .before .before .before .before .before .before .before .aim-of .result) (slot .result) (outcome .result) _
+          (settled (c .before .before .before .before .none .result) (Answer.Step (c .before .before .before .before .before .before .before .before .outcome2 .given .0 .0)))
+          (outcome .last .0) _ (put .result) (put .last .0)
+          (c .before .before .before .before .before .before .before .before .before .before .before .before .before .before .before .before .before .before .before .before .before .before .before .loop-test .taken) whole room (loop .inv .0) (c .before .before .before .before .before .before .before .before .before .before .before .before .before .before .before .before .aim-of .ensures .0) (slot .ensures .0) (outcome .ensures .0)
+          (c .before .before .before .before .before .before .before .before .outcome2 .given .1)
+          (λ i. settled ((c .before .before .before .before .none .ensures ∙ gone-after ticket (c .before .before .before .before .before .before .before .before .outcome2 .given .0 .0) (sym (c .before .before .before .before .before .before .finishes .ensures) ∙ c .before .before .before .before .before .if2 .taken)) i) (Answer.Step (c .before .before .before .before .before .before .before .before .outcome2 .given .0 .0)))
+          refl
+          (put .ensures .0 .0) (put .ensures .1 .0)
+          ∙ loop .inv .4,
+      λ known. turned-well-made (loop .book) (loop .tickets) input (loop .out) (loop .at) (loop .filled) (loop .left) size (c .before .before .before .before .before .before .before .before .before .before .before .before .before .before .before .before .aim-of .result) (slot .result) (outcome .result) _
+          (settled (c .before .before .before .before .none .result) (Answer.Step (c .before .before .before .before .before .before .before .before .outcome2 .given .0 .0)))
+          (outcome .last .0) _ (each-byte input (λ place. omega (arith, c .before .before .before .before .before .before .before .before .before .before .before .before .before .before .before .before .before .before .before .before .before .before .before .before .before .before .before .shared-slice-known .given place))) (loop .inv .5 known) (slot .ensures .1) (outcome .ensures .0)
+          (c .before .before .before .before .before .before .before .before .outcome2 .given .1)
+          (λ i. settled ((c .before .before .before .before .none .ensures ∙ gone-after ticket (c .before .before .before .before .before .before .before .before .outcome2 .given .0 .0) (sym (c .before .before .before .before .before .before .finishes .ensures) ∙ c .before .before .before .before .before .if2 .taken)) i) (Answer.Step (c .before .before .before .before .before .before .before .before .outcome2 .given .0 .0)))
+          refl,
+    )
+
+after-requires : tie.Need-after-requires Inv-loop μ-loop
+after-requires c κs =
+    let loop = c .before .before .before .before .before .before .before .before .before .before .before .before .before .before .before .before .before .before .before .loop in
+    let input = now (c .before .before .before .before .before .before .before .before .before .before .before .before .before .before .before .before .before .before .before .before .before .before .before .before .args .input) in
+    let size = c .before .before .before .before .before .before .before .before .before .before .before .before .before .before .before .next .given .0 .0 in
+    let slot = c .before .before .before .before .before .before .before .before .before .before .slot-of in
+    let outcome = c .before .before .before .before .before .before .before .settle in
+    let ticket = ticketOf (loop .tickets) (slot .result) in (
+      sym (c .before .finishes .ensures) ∙ c .if2 .left,
+      subst (OutcomeKnown ticket (partAfterKind (frameAt input (loop .at) size))) (c .before .before .before .outcome2 .given .1) (outcome .ensures .1),
+    )
 
 mul-after : tie.Need-mul-after Inv-loop μ-loop
 mul-after c = search needs
@@ -118,56 +255,105 @@ mul-after c = search needs
 element-set-from-after : tie.Need-element-set-from-after Inv-loop μ-loop
 element-set-from-after c = search needs
 
-sub-room : tie.Need-sub-room Inv-loop μ-loop
-sub-room c = search needs
+put-answer-requires-3 : tie.Need-put-answer-requires-3 Inv-loop μ-loop
+put-answer-requires-3 c κs = search needs
 
-part-room-start : tie.Need-part-room-start Inv-loop μ-loop
-part-room-start c = search needs
+loop-less-3 : tie.Need-loop-less-3 Inv-loop μ-loop
+loop-less-3 c = omega (arith, c .before .before .before .before .before .before .before .before .before .before .before .before .before .before .before .before .before .before .before .before .before .before .before .loop-test .taken)
 
-part-room-end : tie.Need-part-room-end Inv-loop μ-loop
-part-room-end c = search needs
-
-write-answer-requires : tie.Need-write-answer-requires Inv-loop μ-loop
-write-answer-requires c κs = search needs
-
-add-w : tie.Need-add-w Inv-loop μ-loop
-add-w c =
-    let loop = c .before .before .before .before .before .before .before .before .before .before .before .before .before .before .before .before .before .before .before .loop in
-    let start = c .before .before .before .before .before .before .before .before .before .before .before .before .before .before .before .before .before .before .before .before .before .before .before in
-    let most : loop .w + c .before .before .write-answer .result ≤ length (now (start .args .out)) = omega (arith, loop .inv .3, c .before .before .before .before .before .before .before .before .before .before .before .before .before .if1 .left, c .before .before .write-answer .ensures .1) in
-    omega (arith, start .good .1 .1 .1 .0 .0)
-
-loop-less : tie.Need-loop-less Inv-loop μ-loop
-loop-less c = search needs
-
-loop-again : tie.Need-loop-again Inv-loop μ-loop
-loop-again c =
-    let loop = c .before .before .before .before .before .before .before .before .before .before .before .before .before .before .before .before .before .before .before .loop in
-    let input = now (c .before .before .before .before .before .before .before .before .before .before .before .before .before .before .before .before .before .before .before .before .before .before .before .args .input) in
-    let size = c .before .before .before .before .before .before .before .before .before .before .before .before .before .before .before .next .given .0 .0 in
-    let next = sym (c .before .before .before .before .before .before .before .before .before .before .before .before .before .before .before .before .before .next-frame .ensures .0) ∙ c .before .before .before .before .before .before .before .before .before .before .before .before .before .before .before .next .given .1 in
-    let inside = subst (NextInside input (loop .at)) (c .before .before .before .before .before .before .before .before .before .before .before .before .before .before .before .next .given .1) (c .before .before .before .before .before .before .before .before .before .before .before .before .before .before .before .before .before .next-frame .ensures .1) in
-    let room = c .before .before .before .before .before .before .before .before .before .before .before .before .before .if1 .left in
-    let frame-is : take (loop .at + size - loop .at) (drop (loop .at) input) ≡ take size (drop (loop .at) input) = ap (λ (k : ℕ). take k (drop (loop .at) input)) (add-less (loop .at) size) in
-    let aim = c .before .before .before .before .before .before .before .before .before .before .before .aim-of in
-    let slot = c .before .before .before .before .before .before .before .before .before .before .slot-of in
-    let settled = c .before .before .before .before .before .before .before .settle in
-    let sent = c .before .before .write-answer in (
+loop-again-3 : tie.Need-loop-again-3 Inv-loop μ-loop
+loop-again-3 c =
+    let loop = c .before .before .before .before .before .before .before .before .before .before .before .before .before .before .before .before .before .before .before .before .before .before .before .before .loop in
+    let input = now (c .before .before .before .before .before .before .before .before .before .before .before .before .before .before .before .before .before .before .before .before .before .before .before .before .before .before .before .before .before .args .input) in
+    let size = c .before .before .before .before .before .before .before .before .before .before .before .before .before .before .before .before .before .before .before .before .next .given .0 .0 in
+    let slot = c .before .before .before .before .before .before .before .before .before .before .before .before .before .before .before .slot-of in
+    let outcome = c .before .before .before .before .before .before .before .before .before .before .before .before .settle in
+    let ticket = ticketOf (loop .tickets) (slot .result) in
+    let whole = sym (c .before .before .before .before .before .before .before .before .before .before .before .before .before .before .before .before .before .before .before .before .before .before .next-frame .ensures .0) ∙ c .before .before .before .before .before .before .before .before .before .before .before .before .before .before .before .before .before .before .before .before .next .given .1 in
+    let inside = subst (NextInside input (loop .at)) (c .before .before .before .before .before .before .before .before .before .before .before .before .before .before .before .before .before .before .before .before .next .given .1) (c .before .before .before .before .before .before .before .before .before .before .before .before .before .before .before .before .before .before .before .before .before .before .next-frame .ensures .1) in
+    let room = c .before .before .before .before .before .before .before .before .before .before .before .before .before .before .before .before .before .before .if1 .left in
+    let put = c .before .before .put-answer3 in (
       search needs,
       inside .1,
-      omega (arith, sent .ensures .1, c .before .out .given .1, room),
-      c .before .out .given .1 ∙ loop .inv .3,
-      ap (after (loop .book) (loop .tickets) input (loop .out) (loop .at) (loop .w) (loop .left - 1) size)
-          (call-by (loop .book) (loop .tickets) (take size (drop (loop .at) input)) (roomIn (loop .out) (loop .w)) (aim .result) (slot .result) (settled .result) (settled .last .0) (sent .result) (sent .last .0)
-          (aim .ensures .0 ∙ ap aimOf frame-is)
-          (slot .ensures .0)
-          (settled .ensures ∙ ap (λ f. settledBy (loop .book) (ticketOf (loop .tickets) (slot .result)) f (aim .result)) frame-is)
-          (sent .ensures .0)
-          (loop .inv .0)
-          (room-long (loop .out) (loop .w) room))
-          ∙ sym (goes (loop .book) (loop .tickets) input (loop .out) (loop .at) (loop .w) (loop .left) size (c .before .before .before .before .before .before .before .before .before .before .before .before .before .before .before .before .before .before .loop-test .taken) next room)
+      omega (arith, put .ensures .0 .1, put .ensures .1 .1),
+      put .ensures .1 .1 ∙ loop .inv .3,
+      turned (loop .book) (loop .tickets) input (loop .out) (loop .at) (loop .filled) (loop .left) size (c .before .before .before .before .before .before .before .before .before .before .before .before .before .before .before .before .aim-of .result) (slot .result) (outcome .result) _
+          (settled (c .before .before .before .before .after .result) (Answer.Step (c .before .before .before .before .before .before .before .before .outcome2 .given .0 .0)))
+          (outcome .last .0) _ (put .result) (put .last .0)
+          (c .before .before .before .before .before .before .before .before .before .before .before .before .before .before .before .before .before .before .before .before .before .before .before .loop-test .taken) whole room (loop .inv .0) (c .before .before .before .before .before .before .before .before .before .before .before .before .before .before .before .before .aim-of .ensures .0) (slot .ensures .0) (outcome .ensures .0)
+          (c .before .before .before .before .before .before .before .before .outcome2 .given .1)
+          (λ i. settled (c .before .before .before .before .after .ensures i) (Answer.Step (c .before .before .before .before .before .before .before .before .outcome2 .given .0 .0)))
+          refl
+          (put .ensures .0 .0) (put .ensures .1 .0)
           ∙ loop .inv .4,
+      λ known. turned-well-made (loop .book) (loop .tickets) input (loop .out) (loop .at) (loop .filled) (loop .left) size (c .before .before .before .before .before .before .before .before .before .before .before .before .before .before .before .before .aim-of .result) (slot .result) (outcome .result) _
+          (settled (c .before .before .before .before .after .result) (Answer.Step (c .before .before .before .before .before .before .before .before .outcome2 .given .0 .0)))
+          (outcome .last .0) _ (each-byte input (λ place. omega (arith, c .before .before .before .before .before .before .before .before .before .before .before .before .before .before .before .before .before .before .before .before .before .before .before .before .before .before .before .shared-slice-known .given place))) (loop .inv .5 known) (slot .ensures .1) (outcome .ensures .0)
+          (c .before .before .before .before .before .before .before .before .outcome2 .given .1)
+          (λ i. settled (c .before .before .before .before .after .ensures i) (Answer.Step (c .before .before .before .before .before .before .before .before .outcome2 .given .0 .0)))
+          refl,
     )
+
+enum-known-outcome-3 : tie.Need-enum-known-outcome-3 Inv-loop μ-loop
+enum-known-outcome-3 c = search needs
+
+open-frame-requires : tie.Need-open-frame-requires Inv-loop μ-loop
+open-frame-requires c κs =
+    let loop = c .before .before .before .before .before .before .before .before .before .before .before .before .before .before .before .before .before .loop in
+    let input = now (c .before .before .before .before .before .before .before .before .before .before .before .before .before .before .before .before .before .before .before .before .before .before .args .input) in
+    let size = c .before .before .before .before .before .before .before .before .before .before .before .before .before .next .given .0 .0 in
+    let slot = c .before .before .before .before .before .before .before .before .slot-of in
+    let outcome = c .before .before .before .before .before .settle in
+    let ticket = ticketOf (loop .tickets) (slot .result) in
+    subst (OutcomeKnown ticket (partAfterKind (frameAt input (loop .at) size))) (c .before .outcome3 .given .1) (outcome .ensures .1)
+
+mul-next : tie.Need-mul-next Inv-loop μ-loop
+mul-next c = search needs
+
+element-set-from-next : tie.Need-element-set-from-next Inv-loop μ-loop
+element-set-from-next c = search needs
+
+put-answer-requires-4 : tie.Need-put-answer-requires-4 Inv-loop μ-loop
+put-answer-requires-4 c κs = search needs
+
+loop-less-4 : tie.Need-loop-less-4 Inv-loop μ-loop
+loop-less-4 c = omega (arith, c .before .before .before .before .before .before .before .before .before .before .before .before .before .before .before .before .before .before .before .before .before .before .loop-test .taken)
+
+loop-again-4 : tie.Need-loop-again-4 Inv-loop μ-loop
+loop-again-4 c =
+    let loop = c .before .before .before .before .before .before .before .before .before .before .before .before .before .before .before .before .before .before .before .before .before .before .before .loop in
+    let input = now (c .before .before .before .before .before .before .before .before .before .before .before .before .before .before .before .before .before .before .before .before .before .before .before .before .before .before .before .before .args .input) in
+    let size = c .before .before .before .before .before .before .before .before .before .before .before .before .before .before .before .before .before .before .before .next .given .0 .0 in
+    let slot = c .before .before .before .before .before .before .before .before .before .before .before .before .before .before .slot-of in
+    let outcome = c .before .before .before .before .before .before .before .before .before .before .before .settle in
+    let ticket = ticketOf (loop .tickets) (slot .result) in
+    let whole = sym (c .before .before .before .before .before .before .before .before .before .before .before .before .before .before .before .before .before .before .before .before .before .next-frame .ensures .0) ∙ c .before .before .before .before .before .before .before .before .before .before .before .before .before .before .before .before .before .before .before .next .given .1 in
+    let inside = subst (NextInside input (loop .at)) (c .before .before .before .before .before .before .before .before .before .before .before .before .before .before .before .before .before .before .before .next .given .1) (c .before .before .before .before .before .before .before .before .before .before .before .before .before .before .before .before .before .before .before .before .before .next-frame .ensures .1) in
+    let room = c .before .before .before .before .before .before .before .before .before .before .before .before .before .before .before .before .before .if1 .left in
+    let put = c .before .before .put-answer4 in (
+      search needs,
+      inside .1,
+      omega (arith, put .ensures .0 .1, put .ensures .1 .1),
+      put .ensures .1 .1 ∙ loop .inv .3,
+      turned (loop .book) (loop .tickets) input (loop .out) (loop .at) (loop .filled) (loop .left) size (c .before .before .before .before .before .before .before .before .before .before .before .before .before .before .before .aim-of .result) (slot .result) (outcome .result) _
+          (c .before .before .before .before .before .open-frame .result)
+          (outcome .last .0) _ (put .result) (put .last .0)
+          (c .before .before .before .before .before .before .before .before .before .before .before .before .before .before .before .before .before .before .before .before .before .before .loop-test .taken) whole room (loop .inv .0) (c .before .before .before .before .before .before .before .before .before .before .before .before .before .before .before .aim-of .ensures .0) (slot .ensures .0) (outcome .ensures .0)
+          (c .before .before .before .before .before .before .before .outcome3 .given .1)
+          (c .before .before .before .before .before .open-frame .ensures)
+          refl
+          (put .ensures .0 .0) (put .ensures .1 .0)
+          ∙ loop .inv .4,
+      λ known. turned-well-made (loop .book) (loop .tickets) input (loop .out) (loop .at) (loop .filled) (loop .left) size (c .before .before .before .before .before .before .before .before .before .before .before .before .before .before .before .aim-of .result) (slot .result) (outcome .result) _
+          (c .before .before .before .before .before .open-frame .result)
+          (outcome .last .0) _ (each-byte input (λ place. omega (arith, c .before .before .before .before .before .before .before .before .before .before .before .before .before .before .before .before .before .before .before .before .before .before .before .before .before .before .shared-slice-known .given place))) (loop .inv .5 known) (slot .ensures .1) (outcome .ensures .0)
+          (c .before .before .before .before .before .before .before .outcome3 .given .1)
+          (c .before .before .before .before .before .open-frame .ensures)
+          refl,
+    )
+
+stopped-requires-3 : tie.Need-stopped-requires-3 Inv-loop μ-loop
+stopped-requires-3 c κs = search needs
 
 same-length-5 : tie.Need-same-length-5 Inv-loop μ-loop
 same-length-5 c = search needs
@@ -177,9 +363,13 @@ same-length-6 c = search needs
 
 returns-3 : tie.Need-returns-3 Inv-loop μ-loop
 returns-3 c =
-    let loop = c .before .loop in (
-      (loop .inv .1, omega (arith, loop .inv .2, loop .inv .3)),
-      sym (ends (loop .book) (loop .tickets) (now (c .before .before .before .before .before .args .input)) (loop .out) (loop .at) (loop .w) (loop .left) (c .loop-test .left)) ∙ loop .inv .4,
+    let loop = c .before .before .loop in
+    let input = now (c .before .before .before .before .before .before .before .args .input) in
+    let is = c .stopped3 .ensures in (
+      (omega (arith, ap (λ r. r .consumed) is, loop .inv .1), omega (arith, ap (λ r. r .written) is, loop .inv .2, loop .inv .3)),
+      (λ i. (is i, loop .book, loop .out))
+          ∙ sym (ends (loop .book) (loop .tickets) input (loop .out) (loop .at) (loop .filled) (loop .left) (c .before .loop-test .left))
+          ∙ loop .inv .4,
     )
 
 pub answer-frames-spec : {M : Type 1} → statement M
@@ -188,16 +378,19 @@ answer-frames-spec =
     (tie.spec
     Inv-loop
     μ-loop
+    all-well-made-requires
     loop-holds
     sub-left
     next-frame-requires
     enum-known-next
     enum-told
     stop-of-requires
+    stopped-requires
     same-length
     same-length-2
     returns
     sub-if1
+    stopped-requires-2
     same-length-3
     same-length-4
     returns-2
@@ -210,15 +403,32 @@ answer-frames-spec =
     mul-ticket
     element-copy-out-ticket
     settle-requires
-    mul-after
-    element-set-from-after
-    sub-room
-    part-room-start
-    part-room-end
-    write-answer-requires
-    add-w
+    enum-known-outcome
+    put-answer-requires
     loop-less
     loop-again
+    enum-known-outcome-2
+    finishes-requires
+    none-requires
+    mul-gone
+    element-set-from-gone
+    put-answer-requires-2
+    loop-less-2
+    loop-again-2
+    after-requires
+    mul-after
+    element-set-from-after
+    put-answer-requires-3
+    loop-less-3
+    loop-again-3
+    enum-known-outcome-3
+    open-frame-requires
+    mul-next
+    element-set-from-next
+    put-answer-requires-4
+    loop-less-4
+    loop-again-4
+    stopped-requires-3
     same-length-5
     same-length-6
     returns-3)

@@ -2,7 +2,7 @@
 use mathlib.Core.Path.{ap, _∙_}
 use denote.Ref.{now}
 use Rattle.frames.specs.declared.Answer.the-variants as Answer
-use Rattle.book.specs.Way.{settled, lookSettled}
+use Rattle.calls.specs.Way.{lookAnswer}
 use Rattle.book.proofs.Going.{look-shown, look-outside}
 use borrow.Author.Needs.{needs}
 use Rattle.book.proofs.look_at.Statement.{statement}
@@ -19,17 +19,15 @@ look-requires c κs = search needs
 
 returns : tie.Need-returns
 returns c =
-    let start = c .before .before .before .before .before in
-    let word = c .before .before .read16 .ensures .0 in
-    (λ i. settled (start .args .ticket) (Answer.Look (c .look .ensures i)))
-    ∙ look-shown (now (start .args .book)) (start .args .ticket) (c .before .before .read16 .result) (c .before .if1 .taken)
-    ∙ ap (lookSettled (now (start .args .book)) (start .args .ticket)) word
+    let book = now (c .before .before .before .before .before .args .book) in
+    (λ i. Answer.Look (c .look .ensures i))
+    ∙ look-shown book (c .before .before .read16 .result) (c .before .if1 .taken)
+    ∙ ap (lookAnswer book) (c .before .before .read16 .ensures .0)
 
 returns-2 : tie.Need-returns-2
 returns-2 c =
-    let start = c .before .before .before .before in
-    look-outside (now (start .args .book)) (start .args .ticket) (c .before .read16 .result) (c .if1 .left)
-    ∙ ap (lookSettled (now (start .args .book)) (start .args .ticket)) (c .before .read16 .ensures .0)
+    let book = now (c .before .before .before .before .args .book) in
+    look-outside book (c .before .read16 .result) (c .if1 .left) ∙ ap (lookAnswer book) (c .before .read16 .ensures .0)
 
 pub look-at-spec : {M : Type 1} → statement M
 look-at-spec = tie.close (tie.spec read16-requires cast-if1 look-requires returns returns-2)

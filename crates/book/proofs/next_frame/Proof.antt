@@ -4,9 +4,9 @@ use mathlib.Core.Path.{ap, subst, _∙_}
 use Prim.Native.Nat.{ℕ, _+_, _-_, _<_, _≤_}
 use denote.Ref.{now}
 use lib.ListN.{length}
-use Rattle.book.specs.declared.Next.the-variants.{Frame}
-use Rattle.book.specs.Survey.{longestField}
-use Rattle.book.proofs.Streaming.{next-short, next-bad, next-torn, next-whole}
+use Rattle.calls.specs.declared.Next.the-variants.{Frame}
+use Rattle.calls.specs.Survey.{longestField}
+use Rattle.calls.proofs.Streaming.{next-short, next-bad, next-torn, next-whole}
 use borrow.Author.Needs.{needs}
 use Rattle.book.proofs.next_frame.Statement.{statement}
 use Rattle.book.proofs.next_frame.Tie as tie

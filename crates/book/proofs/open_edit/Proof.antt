@@ -1,7 +1,7 @@
 -- `book::open_edit` meets its contract: the ticket that the edit opens, or the refusal of its fields.
 use mathlib.Core.Path.{sym, ap, _∙_}
 use Rattle.frames.specs.declared.Answer.the-variants as Answer
-use Rattle.book.specs.Way.{settled, openSettled}
+use Rattle.calls.specs.Way.{settled, openSettled}
 use Rattle.book.proofs.Going.{read-allowed, opened-settles, refused-settles}
 use borrow.Author.Needs.{needs}
 use Rattle.book.proofs.open_edit.Statement.{statement}

@@ -5,7 +5,7 @@ use Prim.Native.Nat.{_<_}
 use denote.Ref.{now}
 use lib.ListN.{length}
 use Rattle.frames.specs.Numbers.{number16}
-use Rattle.book.specs.Way.{AimKnown, lookSettled, teamSettled, settledBy}
+use Rattle.calls.specs.Way.{AimKnown, settled, lookAnswer, lookSettled, outcomeSettled, OutcomeKnown, teamSettled, settledBy}
 use Rattle.book.proofs.Going.{team-inside}
 use borrow.Author.Needs.{needs}
 use Rattle.book.proofs.settle.Statement.{statement}
@@ -35,30 +35,34 @@ part-after-kind-requires-2 c κs = subst (AimKnown (now (c .before .before .befo
 team-frame-requires : tie.Need-team-frame-requires
 team-frame-requires c κs =
     let start = c .before .before .before .before .before .before .before in
-    let known = subst (AimKnown (now (start .args .frame))) (c .before .before .before .aim2 .given .1) (start .pre .1) in
-    record {
-      book = start .pre .0;
-      first = known .0 .first;
-      last = omega (arith, known .1);
-      fields = ap length (c .before .part-after-kind2 .ensures) ∙ known .0 .fields;
-      team-known = known .2;
-    }
+    let known = subst (AimKnown (now (start .args .frame))) (c .before .before .before .aim2 .given .1) (start .pre .1) in (
+      record {
+        book = start .pre .0;
+        first = known .0 .first;
+        last = omega (arith, known .1);
+        fields = ap length (c .before .part-after-kind2 .ensures) ∙ known .0 .fields;
+        team-known = known .2;
+      },
+      start .pre .2,
+    )
 
 returns : tie.Need-returns
 unfolding settledBy
 returns c =
     let args = c .before .before .before .before .before .args in
-    ap (settledBy (now (args .book)) (args .ticket) (now (args .frame))) (sym (c .before .aim .given .1))
+    (ap (settledBy (now (args .book)) (args .ticket) (now (args .frame))) (sym (c .before .aim .given .1)), tt)
 
 same-length : tie.Need-same-length
 same-length c = search needs
 
 returns-2 : tie.Need-returns-2
-unfolding settledBy
+unfolding settledBy lookSettled
 returns-2 c =
-    let args = c .before .before .before .before .before .before .before .args in
-    (λ i. ((c .look-at .ensures ∙ ap (λ l. lookSettled (now (args .book)) (args .ticket) (number16 l 0)) (c .before .before .part-after-kind .ensures)) i, now (args .book)))
-    ∙ ap (settledBy (now (args .book)) (args .ticket) (now (args .frame))) (sym (c .before .before .before .enum-told .given .1))
+    let args = c .before .before .before .before .before .before .before .args in (
+      (λ i. (settled (args .ticket) ((c .look-at .ensures ∙ ap (λ l. lookAnswer (now (args .book)) (number16 l 0)) (c .before .before .part-after-kind .ensures)) i), now (args .book)))
+          ∙ ap (settledBy (now (args .book)) (args .ticket) (now (args .frame))) (sym (c .before .before .before .enum-told .given .1)),
+      tt,
+    )
 
 same-length-2 : tie.Need-same-length-2
 same-length-2 c = search needs
@@ -67,9 +71,14 @@ returns-3 : tie.Need-returns-3
 unfolding settledBy
 returns-3 c =
     let args = c .before .before .before .before .before .before .before .before .before .before .args in
-    c .before .before .team-frame .ensures
-    ∙ ap (λ l. teamSettled (now (args .book)) (args .ticket) l (c .before .before .before .before .before .before .aim2 .given .0 .0) (c .before .before .before .before .before .before .aim2 .given .0 .1 .0)) (c .before .before .before .before .part-after-kind2 .ensures)
-    ∙ ap (settledBy (now (args .book)) (args .ticket) (now (args .frame))) (sym (c .before .before .before .before .before .before .aim2 .given .1))
+    let part = c .before .before .before .before .part-after-kind2 .ensures in
+    let done = c .before .before .team-frame in (
+      (λ i. (outcomeSettled (args .ticket) (sym part i) (done .result), done .last .0))
+          ∙ done .ensures .0
+          ∙ ap (λ l. teamSettled (now (args .book)) (args .ticket) l (c .before .before .before .before .before .before .aim2 .given .0 .0) (c .before .before .before .before .before .before .aim2 .given .0 .1 .0)) part
+          ∙ ap (settledBy (now (args .book)) (args .ticket) (now (args .frame))) (sym (c .before .before .before .before .before .before .aim2 .given .1)),
+      subst (λ l. OutcomeKnown (args .ticket) l (done .result)) part (done .ensures .1),
+    )
 
 pub settle-spec : {M : Type 1} → statement M
 settle-spec =

@@ -1,6 +1,6 @@
 -- `book::slot_of` meets its contract: a team's own slot, else the first.
 use mathlib.Core.Path.{sym, ap, subst}
-use Rattle.book.specs.Way.{slotOf, SlotKnown}
+use Rattle.calls.specs.Way.{slotOf, SlotKnown}
 use borrow.Author.Needs.{needs}
 use Rattle.book.proofs.slot_of.Statement.{statement}
 use Rattle.book.proofs.slot_of.Tie as tie

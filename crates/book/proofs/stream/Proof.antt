@@ -1,16 +1,22 @@
 -- `book::stream` meets its contract: no book of 4,096 words, or all frames answered.
 use native.Mathlib.Omega.{arith}
-use mathlib.Core.Path.{_∙_}
+use mathlib.Core.Path.{ap, _∙_}
 use denote.Ref.{now}
-use Rattle.book.proofs.Streaming.{stream-whole, stream-no-book}
+use Rattle.calls.proofs.Streaming.{stream-whole, stream-no-book}
 use borrow.Author.Needs.{needs}
 use Rattle.book.proofs.stream.Statement.{statement}
 use Rattle.book.proofs.stream.Tie as tie
 
+stopped-requires : tie.Need-stopped-requires
+stopped-requires c κs = search needs
+
 returns : tie.Need-returns
 returns c =
-    let args = c .before .before .before .before .args in
-    ((omega arith, omega arith), stream-no-book (now (args .book)) (args .tickets) (now (args .input)) (now (args .out)) (c .if1 .taken))
+    let args = c .before .before .before .before .before .args in
+    let is = c .stopped .ensures in (
+      (omega (arith, ap (λ r. r .consumed) is), omega (arith, ap (λ r. r .written) is)),
+      (λ i. (is i, now (args .book), now (args .out))) ∙ stream-no-book (now (args .book)) (args .tickets) (now (args .input)) (now (args .out)) (c .before .if1 .taken),
+    )
 
 answer-frames-requires : tie.Need-answer-frames-requires
 answer-frames-requires c κs = search needs
@@ -31,4 +37,4 @@ returns-2 c =
 
 pub stream-spec : {M : Type 1} → statement M
 stream-spec =
-    tie.close (tie.spec returns answer-frames-requires same-length same-length-2 returns-2)
+    tie.close (tie.spec stopped-requires returns answer-frames-requires same-length same-length-2 returns-2)

@@ -1,5 +1,6 @@
 -- `survey::read_more` meets its contract: what is read stands behind the first bytes.
 use borrow.Author.Needs.{needs}
+use native.Mathlib.Omega.{arith}
 use lib.ListN.{take}
 use lib.Seq.{take-at, length-take-le}
 use denote.Ref.{now}
@@ -26,8 +27,10 @@ same-length c = search needs
 
 returns : tie.Need-returns
 returns c =
-    let args = c .before .before .before .before .before .before .before .before .before .before .args in
-    (search needs, take-at (take (args .have) (now (args .buffer))) _ (args .have) (length-take-le (args .have) (now (args .buffer)) (c .before .before .before .before .before .before .before .before .before .before .pre)))
+    let start = c .before .before .before .before .before .before .before .before .before .before in
+    let have = start .args .have in
+    let old = now (start .args .buffer) in
+    (search needs, take-at (take have old) _ have (length-take-le have old (omega (arith, start .pre))))
 
 pub read-more-spec : {M : Type 1} → statement M
 read-more-spec =

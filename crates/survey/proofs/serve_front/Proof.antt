@@ -3,7 +3,7 @@ use native.Mathlib.Omega.{arith}
 use mathlib.Core.Path.{sym, _∙_}
 use denote.Ref.{now}
 use borrow.Author.Tests.{not-true, not-false}
-use Rattle.survey.proofs.Serving.{serves-no-more, serves-on}
+use Rattle.survey.proofs.Serving.{serves-no-more, serves-on, few-kept}
 use borrow.Author.Needs.{needs}
 use Rattle.survey.proofs.serve_front.Statement.{statement}
 use Rattle.survey.proofs.serve_front.Tie as tie
@@ -27,7 +27,7 @@ returns : tie.Need-returns
 returns c =
     let args = c .before .before .before .before .before .before .before .before .before .before .before .before .before .before .args in
     let answered = c .before .before .before .before .before .before .before .stream-front in
-    ((omega arith, answered .ensures .0 .1), serves-no-more (now (args .book)) (args .tickets) (now (args .buffer)) (args .have) (now (args .out)) _ _ _ (answered .ensures .1) (sym (c .before .goes-on .ensures) ∙ not-true _ (c .if1 .taken)))
+    ((omega arith, omega arith, answered .ensures .0 .1), serves-no-more (now (args .book)) (args .tickets) (now (args .buffer)) (args .have) (now (args .out)) _ _ _ (answered .ensures .1) (sym (c .before .goes-on .ensures) ∙ not-true _ (c .if1 .taken)))
 
 shift-requires : tie.Need-shift-requires
 shift-requires c κs = search needs
@@ -43,10 +43,13 @@ same-length-6 c = search needs
 
 returns-2 : tie.Need-returns-2
 returns-2 c =
-    let args = c .before .before .before .before .before .before .before .before .before .before .before .before .before .before .before .before .before .before .args in
+    let start = c .before .before .before .before .before .before .before .before .before .before .before .before .before .before .before .before .before .before in
+    let args = start .args in
     let answered = c .before .before .before .before .before .before .before .before .before .before .before .stream-front in
     let shifts = c .before .before .shift .ensures in
-    ((search needs, answered .ensures .0 .1), serves-on (now (args .book)) (args .tickets) (now (args .buffer)) (args .have) (now (args .out)) _ _ _ (answered .ensures .1) _ _ (shifts .0) (shifts .1) (sym (c .before .before .before .before .before .goes-on .ensures) ∙ not-false _ (c .before .before .before .before .if1 .left)))
+    let goes = sym (c .before .before .before .before .before .goes-on .ensures) ∙ not-false _ (c .before .before .before .before .if1 .left) in
+    let few = few-kept (now (args .book)) (args .tickets) (now (args .buffer)) (args .have) (now (args .out)) _ _ _ (answered .ensures .1) (start .pre .1) (start .pre .0) (start .pre .2) goes in
+    ((search needs, omega (arith, few, shifts .0), answered .ensures .0 .1), serves-on (now (args .book)) (args .tickets) (now (args .buffer)) (args .have) (now (args .out)) _ _ _ (answered .ensures .1) _ _ (shifts .0) (shifts .1) goes)
 
 pub serve-front-spec : {M : Type 1} → statement M
 serve-front-spec =

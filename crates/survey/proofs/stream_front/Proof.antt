@@ -4,7 +4,7 @@ use Prim.Native.Nat.{ℕ, _-_}
 use mathlib.Core.Path.{_≡_, ap, _∙_}
 use lib.ListN.{take}
 use denote.Ref.{now}
-use Rattle.book.specs.Stream.{streamOf}
+use Rattle.calls.specs.Stream.{streamOf}
 use borrow.Author.Needs.{needs}
 use Rattle.survey.proofs.stream_front.Statement.{statement}
 use Rattle.survey.proofs.stream_front.Tie as tie

@@ -1,5 +1,8 @@
--- `tickets::step` meets its contract: the swap that the ticket tries, once, and what it found settles the ticket.
+-- `tickets::step` meets its contract: the swap that the ticket tries, once, and what it found settles the answer, which tells the ticket.
+use mathlib.Core.Path.{refl, sym, _∙_}
 use denote.Ref.{now}
+use Rattle.tickets.specs.Steps.{settled}
+use Rattle.tickets.proofs.After.{settled-told, told-step}
 use Rattle.tickets.proofs.Settled.{step-by}
 use borrow.Author.Needs.{needs}
 use Rattle.tickets.proofs.step.Statement.{statement}
@@ -14,8 +17,8 @@ cast-at c = search needs
 conditional-swap-requires : tie.Need-conditional-swap-requires
 conditional-swap-requires c κs = search needs
 
-settle-requires : tie.Need-settle-requires
-settle-requires c κs = search needs
+answer-requires : tie.Need-answer-requires
+answer-requires c κs = search needs
 
 same-length : tie.Need-same-length
 same-length c = search needs
@@ -25,11 +28,15 @@ returns c =
     let start = c .before .before .before .before .before .before .before .before in
     let swap = c .before .before .before .conditional-swap in
     let tried = c .before .before .before .before .before .before .swap-tried in
-    step-by (now (start .args .book)) (start .args .ticket) (start .args .team) (tried .result) (swap .result) (swap .last .0) (c .settle .result)
-    (tried .ensures .0)
-    (swap .ensures .0)
-    (swap .ensures .1)
-    (c .settle .ensures)
+    let ticket = start .args .ticket in
+    let told = told-step ticket (settled ticket (swap .result)) (c .answer .result) (c .answer .ensures) (settled-told ticket (start .pre .1) (swap .result)) in (
+      step-by (now (start .args .book)) ticket (start .args .team) (tried .result) (swap .result) (swap .last .0) _
+          (tried .ensures .0)
+          (swap .ensures .0)
+          (swap .ensures .1)
+          (told .0),
+      told .1,
+    )
 
 pub step-spec : {M : Type 1} → statement M
 step-spec =
@@ -38,6 +45,6 @@ step-spec =
     swap-tried-requires
     cast-at
     conditional-swap-requires
-    settle-requires
+    answer-requires
     same-length
     returns)

@@ -1,0 +1,29 @@
+pub mod Way
+pub mod WellMadeTables
+pub mod Sending
+pub mod Streaming
+pub mod Tables
+pub mod Refusing
+pub mod Fitting
+pub mod Hearing
+pub mod Demand1
+pub mod Demand2
+pub mod SurveyRun
+pub mod StreamRun
+pub mod StreamPieces
+pub mod SurveyPieces
+pub mod Orders
+pub mod Ordered
+pub mod Passing
+pub mod Freshness
+pub mod Tied
+pub mod Kept
+pub mod Demand3
+mod Computing
+pub mod BenchTable
+mod RefusalExamples
+mod ExampleCalls
+mod ExamplesWholeCase
+mod ExamplesContended
+mod ExamplesMoves
+mod ExamplesPieces

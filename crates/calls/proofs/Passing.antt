@@ -1,0 +1,45 @@
+-- What a request that is not refused satisfies.
+use mathlib.Core.Path.{_≡_, refl}
+use mathlib.Core.Bool.{true, false}
+use mathlib.Core.Option.{none}
+use Prim.Native.Nat.{_<_}
+use borrow.Author.Tests.{ltb-true, not-false}
+use Rattle.words.specs.Tests.{allHold}
+use Rattle.words.specs.Words.{Words, wordsInBook, teamCount}
+use Rattle.tickets.specs.declared.Tickets.{Tickets}
+use Rattle.tickets.specs.Tickets.{ticketOf, hasTicket}
+use Rattle.edits.specs.declared.Edit.{Edit}
+use Rattle.edits.specs.Ranges.{editInRange, editRepeats, editAllowed}
+use Rattle.frames.specs.declared.Request.{Request}
+use Rattle.frames.specs.declared.Request.the-variants.{Open, Step, Look}
+use Rattle.frames.specs.Numbers.{Bytes, areBytes}
+use Rattle.frames.specs.Requests.{requestIn}
+use Rattle.frames.proofs.Asked.{stations-fit}
+use Rattle.frames.specs.Fields.{fieldOutOfRange, fieldRepeated}
+use Rattle.calls.specs.Call.{refusalOf, teamUnknown, editWithTicket, stepWithoutTicket}
+use Rattle.calls.proofs.Refusing.{passed}
+use Rattle.calls.proofs.Ordered.{Fine}
+
+-- An edit that neither 10 nor 11 refuses is allowed.
+allowed : (edit : Edit) → editInRange edit ≡ true → editRepeats edit ≡ false → editAllowed edit ≡ true
+unfolding allHold
+allowed edit in-range once = rw (in-range, once) refl
+
+-- Its team is one of the sixteen, has no ticket or has one as asked for, its edit is fine, its word is one of the book's.
+abbrev pub Passes : Tickets → Request → Type 0
+Passes tickets (Open team edit) = (team < teamCount) × (hasTicket (ticketOf tickets team .phase) ≡ false) × Fine edit
+Passes tickets (Step team) = (team < teamCount) × (hasTicket (ticketOf tickets team .phase) ≡ true)
+Passes tickets (Look word) = word < wordsInBook
+
+module _ (words : Words) (tickets : Tickets) (frame out : Bytes) (bytes : areBytes frame ≡ true) where
+  pub passes : refusalOf words tickets frame out ≡ none → Passes tickets (requestIn frame)
+  passes none-given =
+      let known = passed words tickets frame out none-given in
+      of-request (requestIn frame) refl (known .known-team) (known .edit-alone) (known .step-allowed) (known .in-range) (known .named-once)
+    where
+      of-request : (request : Request) → requestIn frame ≡ request → teamUnknown request ≡ false → editWithTicket tickets request ≡ false
+          → stepWithoutTicket tickets request ≡ false → fieldOutOfRange request ≡ false → fieldRepeated request ≡ false → Passes tickets request
+      of-request (Open team edit) is known no-ticket ticket in-range once =
+          (ltb-true team teamCount (not-false _ known), no-ticket, record { allowed = allowed edit (not-false _ in-range) once; stations = stations-fit frame team edit bytes is })
+      of-request (Step team) is known no-ticket ticket in-range once = (ltb-true team teamCount (not-false _ known), not-false _ ticket)
+      of-request (Look word) is known no-ticket ticket in-range once = ltb-true word wordsInBook (not-false _ in-range)

@@ -1,0 +1,160 @@
+-- What a call returns and writes: refusals 1 and 2, and else the answer of the frame's way.
+use Prim.Native.Nat.{ℕ, _≤_, _<_}
+use mathlib.Core.Path.{_≡_, refl, sym, ap, subst, _∙_}
+use mathlib.Core.Bool.{Bool, true, false, cond, not}
+use mathlib.Core.Logic.{inl, inr}
+use mathlib.Core.Option.{some}
+use native.Mathlib.Omega.{arith}
+use borrow.Author.Tests.{eq-eqb, ne-eqb, lt-ltb, le-ltb}
+use lib.Dec.{eqb, ltb, lit≤}
+use lib.ListN.{length}
+use Rattle.words.specs.Words.{Words, wordsInBook, teamCount}
+use Rattle.tickets.specs.declared.Ticket.{Ticket}
+use Rattle.tickets.specs.declared.Tickets.{Tickets}
+use Rattle.tickets.specs.Tickets.{ticketOf, withTicket, hasTicket, wellMade}
+use Rattle.tickets.specs.Steps.{stepOf, lookOf}
+use Rattle.edits.specs.declared.Edit.{Edit}
+use Rattle.edits.specs.Ranges.{editInRange, editRepeats}
+use Rattle.frames.specs.declared.Answer.{Answer}
+use Rattle.frames.specs.declared.Answer.the-variants as Answer
+use Rattle.frames.specs.declared.Header.{Header}
+use Rattle.frames.specs.declared.Header.the-variants as Header
+use Rattle.frames.specs.declared.EditRead.the-variants as EditRead
+use Rattle.frames.specs.Numbers.{Bytes, number16}
+use Rattle.frames.specs.Requests.{partAfterKind, stepKind, lookKind, teamIn, editOfKind}
+use Rattle.frames.specs.Answers.{answerFrame, longestAnswer, written}
+use Rattle.frames.specs.Fields.{headerOf, editRead}
+use Rattle.frames.proofs.Headers.{refused-tests}
+use Rattle.calls.specs.declared.Aim.{Aim}
+use Rattle.calls.specs.declared.Aim.the-variants as Aim
+use Rattle.calls.specs.declared.Settled.{Settled}
+use Rattle.calls.specs.declared.Reply.{Reply}
+use Rattle.calls.specs.Call.{refusalTests, refusalOf, Done, done, refusedOr, doneOf, Sent, number, bytes, sentOf, writtenBy, callOf}
+use Rattle.calls.specs.Way.{aimBy, aimOf, slotOf, settled, lookSettled, openSettled, stepSettled, teamSettled, settledBy, wayDone, wayOf}
+use Rattle.calls.proofs.Way.{way-is-call}
+
+-- An answer that goes out as a frame: any but refusals 1 and 2.
+abbrev Framed : Answer → Type 0
+Framed (Answer.Standing n) = Unit {0}
+Framed (Answer.Step answer) = Unit {0}
+Framed (Answer.Look answer) = Unit {0}
+Framed (Answer.Refused refusal) = 3 ≤ refusal
+
+framed-sent : (answer : Answer) → Framed answer → sentOf answer ≡ bytes (answerFrame answer)
+unfolding sentOf
+framed-sent (Answer.Standing n) f = refl
+framed-sent (Answer.Step answer) f = refl
+framed-sent (Answer.Look answer) f = refl
+framed-sent (Answer.Refused refusal) f = ap (λ b. cond b (number refusal) (bytes (answerFrame (Answer.Refused refusal)))) (le-ltb refusal 3 f)
+
+-- Every answer of the way is one.
+FramedAim : Aim → Type 0
+FramedAim (Aim.Refused refusal) = 3 ≤ refusal
+FramedAim Aim.Look = Unit {0}
+FramedAim (Aim.Team kind team) = Unit {0}
+
+header-framed : (frame : Bytes) (header : Header) → headerOf frame ≡ header → FramedAim (aimBy frame header)
+unfolding FramedAim
+header-framed frame (Header.Refused refusal) e = elim (refused-tests frame refusal e) [
+  | inl t ↦ omega (arith, t .1)
+  | inr u ↦ elim u [ inl t ↦ omega (arith, t .2) | inr t ↦ omega (arith, t .3) ]
+]
+header-framed frame (Header.Kind kind) e = go (eqb kind lookKind) (ltb (teamIn (partAfterKind frame)) teamCount)
+  where
+    go : (look known : Bool) → FramedAim (cond look Aim.Look (cond known (Aim.Team kind (teamIn (partAfterKind frame))) (Aim.Refused 6)))
+    go true known = tt
+    go false true = tt
+    go false false = lit≤ tt
+
+aim-framed : (frame : Bytes) → FramedAim (aimOf frame)
+unfolding aimOf
+aim-framed frame = header-framed frame (headerOf frame) refl
+
+look-framed : (words : Words) (ticket : Ticket) (word : ℕ) → Framed (lookSettled words ticket word .answer)
+unfolding lookSettled
+look-framed words ticket word = go (ltb word wordsInBook)
+  where
+    go : (inside : Bool) → Framed (cond inside (Answer.Look (lookOf words word)) (Answer.Refused 10))
+    go true = tt
+    go false = lit≤ tt
+
+open-framed : (ticket : Ticket) (edit : Edit) → Framed (openSettled ticket (editRead edit) .answer)
+unfolding openSettled editRead
+open-framed ticket edit = go (editInRange edit) (editRepeats edit)
+  where
+    go : (range repeats : Bool) → Framed (openSettled ticket (cond range (cond repeats (EditRead.Refused 11) (EditRead.Is edit)) (EditRead.Refused 10)) .answer)
+    go true true = lit≤ tt
+    go true false = tt
+    go false repeats = lit≤ tt
+
+team-framed : (words : Words) (ticket : Ticket) (part : Bytes) (kind team : ℕ) → Framed (teamSettled words ticket part kind team .0 .answer)
+unfolding teamSettled
+team-framed words ticket part kind team = go (hasTicket (ticket .phase)) (wellMade ticket) (eqb kind stepKind)
+  where
+    go : (stands made step : Bool)
+        → Framed ((cond {A = Settled × Words} stands
+        (cond made (cond step (stepSettled (stepOf words ticket team)) (settled ticket (Answer.Refused 8), words)) (settled ticket (Answer.Refused 7), words))
+        (cond step (settled ticket (Answer.Refused 9), words) (openSettled ticket (editRead (editOfKind kind part)), words))) .0 .answer)
+    go true true true = tt
+    go true true false = lit≤ tt
+    go true false step = lit≤ tt
+    go false made true = lit≤ tt
+    go false made false = open-framed ticket (editOfKind kind part)
+
+settled-framed : (words : Words) (ticket : Ticket) (frame : Bytes) (aim : Aim) → FramedAim aim → Framed (settledBy words ticket frame aim .0 .answer)
+unfolding settledBy FramedAim
+settled-framed words ticket frame (Aim.Refused refusal) f = f
+settled-framed words ticket frame Aim.Look f = look-framed words ticket (number16 (partAfterKind frame) 0)
+settled-framed words ticket frame (Aim.Team kind team) f = team-framed words ticket (partAfterKind frame) kind team
+
+way-framed : (words : Words) (tickets : Tickets) (frame : Bytes) → Framed (wayOf words tickets frame .answer)
+unfolding wayOf
+way-framed words tickets frame = settled-framed words (ticketOf tickets (slotOf (aimOf frame))) frame (aimOf frame) (aim-framed frame)
+
+-- What goes out for what was done.
+abbrev outOf : Bytes → Done → Reply × Words × Bytes
+outOf out result =
+    let output = writtenBy out (sentOf (result .answer)) in
+    (record { written = output .0; tickets = result .tickets }, result .words, output .1)
+
+-- What goes out by the way.
+abbrev pub wayOut : Bytes → Done → Reply × Words × Bytes
+wayOut out result =
+    let output = written out (answerFrame (result .answer)) in
+    (record { written = output .0; tickets = result .tickets }, result .words, output .1)
+
+pub call-way : (words : Words) (tickets : Tickets) (frame out : Bytes) → length words ≡ wordsInBook → longestAnswer ≤ length out
+    → wayOut out (wayOf words tickets frame) ≡ callOf words tickets frame out
+unfolding callOf
+call-way words tickets frame out whole room =
+    let result = wayOf words tickets frame in
+    let sent = sym (framed-sent (result .answer) (way-framed words tickets frame)) in
+    (λ i. (record { written = writtenBy out (sent i) .0; tickets = result .tickets }, result .words, writtenBy out (sent i) .1))
+    ∙ ap (outOf out) (sym (way-is-call words tickets frame out whole room))
+
+pub call-no-book : (words : Words) (tickets : Tickets) (frame out : Bytes) → (length words ≡ wordsInBook → ⊥)
+    → _≡_ {A = Reply × Words × Bytes} (record { written = 1; tickets = tickets }, words, out) (callOf words tickets frame out)
+unfolding callOf doneOf refusalOf refusalTests sentOf
+call-no-book words tickets frame out n = rw (ne-eqb (length words) wordsInBook n) refl
+
+pub call-no-room : (words : Words) (tickets : Tickets) (frame out : Bytes) → length words ≡ wordsInBook → length out < longestAnswer
+    → _≡_ {A = Reply × Words × Bytes} (record { written = 2; tickets = tickets }, words, out) (callOf words tickets frame out)
+unfolding callOf doneOf refusalOf refusalTests sentOf
+call-no-room words tickets frame out whole short = rw (eq-eqb (length words) wordsInBook whole, lt-ltb (length out) longestAnswer short) refl
+
+-- The same from what the code has: where the frame is aimed, its slot, what it settled, what was written.
+pub call-by : (words : Words) (tickets : Tickets) (frame out : Bytes) (aim : Aim) (slot : ℕ) (result : Settled) (after : Words) (count : ℕ) (output : Bytes)
+    → aim ≡ aimOf frame
+    → slot ≡ slotOf aim
+    → _≡_ {A = Settled × Words} (result, after) (settledBy words (ticketOf tickets slot) frame aim)
+    → _≡_ {A = ℕ × Bytes} (count, output) (written out (answerFrame (result .answer)))
+    → length words ≡ wordsInBook
+    → longestAnswer ≤ length out
+    → _≡_ {A = Reply × Words × Bytes} (record { written = count; tickets = withTicket tickets slot (result .ticket) }, after, output) (callOf words tickets frame out)
+unfolding wayOf
+call-by words tickets frame out aim slot result after count output aimed slotted settles sends whole room =
+    (λ i. (record { written = sends i .0; tickets = withTicket tickets slot (result .ticket) }, after, sends i .1))
+    ∙ (λ i. wayOut out (wayDone tickets slot (settles i)))
+    ∙ (λ i. wayOut out (wayDone tickets (slotted i) (settledBy words (ticketOf tickets (slotted i)) frame aim)))
+    ∙ (λ i. wayOut out (wayDone tickets (slotOf (aimed i)) (settledBy words (ticketOf tickets (slotOf (aimed i))) frame (aimed i))))
+    ∙ call-way words tickets frame out whole room

@@ -1,0 +1,181 @@
+-- The way of a frame, as the code goes it, is what the call does where neither refusal 1 nor 2 applies.
+use Prim.Native.Nat.{ℕ, _≤_, _<_}
+use mathlib.Core.Path.{_≡_, refl, sym, ap, _∙_}
+use mathlib.Core.List.{List, [], _∷_}
+use mathlib.Core.Bool.{Bool, true, false, cond, not}
+use mathlib.Core.Logic.{_⊎_, inl, inr}
+use mathlib.Core.Option.{Option, none, some}
+use native.Mathlib.Omega.{arith}
+use native.Mathlib.Decide.{ℕ-discrete}
+use borrow.Author.Tests.{eq-eqb, ne-eqb, le-ltb, leb-true, not-false}
+use lib.Dec.{eqb, leb, ltb}
+use lib.ListN.{length}
+use lib.Seq.{set-getD}
+use Rattle.words.specs.Tests.{allHold}
+use Rattle.words.proofs.Tests.{split}
+use Rattle.words.specs.Words.{Words, wordsInBook, teamCount}
+use Rattle.tickets.specs.declared.Ticket.{Ticket}
+use Rattle.tickets.specs.declared.Tickets.{Tickets}
+use Rattle.tickets.specs.Tickets.{absentSlot, ticketOf, withTicket, hasTicket, wellMade}
+use Rattle.tickets.specs.Steps.{lookOf}
+use Rattle.edits.specs.declared.Edit.{Edit}
+use Rattle.edits.specs.Ranges.{editInRange, editRepeats}
+use Rattle.frames.specs.declared.Answer.{Answer}
+use Rattle.frames.specs.declared.Answer.the-variants as Answer
+use Rattle.frames.specs.declared.Header.{Header}
+use Rattle.frames.specs.declared.Header.the-variants as Header
+use Rattle.frames.specs.declared.Request.{Request}
+use Rattle.frames.specs.declared.Request.the-variants.{Open, Step, Look}
+use Rattle.frames.specs.Numbers.{Bytes, number16}
+use Rattle.frames.specs.Requests.{kindField, partAfterKind, addKind, moveKind, stepKind, lookKind, teamIn, editOfKind, requestOfKind, requestIn}
+use Rattle.frames.specs.Answers.{longestAnswer}
+use Rattle.frames.specs.Fields.{frameTorn, kindUnknown, lengthWrong, fieldOutOfRange, fieldRepeated, headerOf, editRead}
+use Rattle.frames.proofs.Headers.{kind-tests, refused-tests, edit-asked, step-asked, look-asked}
+use Rattle.calls.specs.declared.Aim.{Aim}
+use Rattle.calls.specs.declared.Aim.the-variants as Aim
+use Rattle.calls.specs.declared.Settled.{Settled}
+use Rattle.calls.specs.Call.{bookLengthWrong, outputShort, teamUnknown, ownTicketBadlyMade, editWithTicket, stepWithoutTicket, refusalTests, firstFrom, refusalOf, Done, done, requestDone, refusedOr, doneOf}
+use Rattle.calls.specs.Way.{aimBy, aimOf, slotOf, settled, lookSettled, openSettled, teamSettled, settledBy, wayDone, wayOf, WayIsCall}
+
+-- The tests from refusal 6 on, and what a request comes to by them.
+abbrev laterTests : Tickets → Request → List Bool
+laterTests tickets request =
+    teamUnknown request
+    ∷ ownTicketBadlyMade tickets request
+    ∷ editWithTicket tickets request
+    ∷ stepWithoutTicket tickets request
+    ∷ fieldOutOfRange request
+    ∷ fieldRepeated request
+    ∷ []
+
+abbrev laterDone : Words → Tickets → Request → Done
+laterDone words tickets request = refusedOr (firstFrom 6 (laterTests tickets request)) words tickets request
+
+-- A slot stored back as it was leaves the table.
+pub slot-same : (tickets : Tickets) (team : ℕ) → withTicket tickets team (ticketOf tickets team) ≡ tickets
+slot-same tickets team i = record { slots = set-getD (tickets .slots) team absentSlot i }
+
+slot-kept : (tickets : Tickets) (team : ℕ) (answer : Answer) (words : Words) → done answer tickets words ≡ done answer (withTicket tickets team (ticketOf tickets team)) words
+slot-kept tickets team answer words = ap (λ t. done answer t words) (sym (slot-same tickets team))
+
+-- A look: refusal 10, or its answer.
+look-way : (words : Words) (tickets : Tickets) (word : ℕ) → laterDone words tickets (Look word) ≡ wayDone tickets 0 (lookSettled words (ticketOf tickets 0) word, words)
+unfolding lookSettled requestDone
+look-way words tickets word = go (ltb word wordsInBook)
+  where
+    go : (inside : Bool)
+        → refusedOr (firstFrom 6 (false ∷ false ∷ false ∷ false ∷ not inside ∷ false ∷ [])) words tickets (Look word)
+        ≡ wayDone tickets 0 (settled (ticketOf tickets 0) (cond inside (Answer.Look (lookOf words word)) (Answer.Refused 10)), words)
+    go true = slot-kept tickets 0 (Answer.Look (lookOf words word)) words
+    go false = slot-kept tickets 0 (Answer.Refused 10) words
+
+-- Where a team's frame goes.
+abbrev teamAim : ℕ → ℕ → Aim
+teamAim kind team = cond (ltb team teamCount) (Aim.Team kind team) (Aim.Refused 6)
+
+abbrev aimDone : Words → Tickets → Bytes → Aim → Done
+aimDone words tickets frame aim = wayDone tickets (slotOf aim) (settledBy words (ticketOf tickets (slotOf aim)) frame aim)
+
+-- A step: refusals 6, 7 and 9, or the step.
+step-way : (words : Words) (tickets : Tickets) (frame : Bytes) (team : ℕ) → laterDone words tickets (Step team) ≡ aimDone words tickets frame (teamAim stepKind team)
+unfolding requestDone settledBy teamSettled allHold
+step-way words tickets frame team = go (ltb team teamCount) (hasTicket (ticketOf tickets team .phase)) (wellMade (ticketOf tickets team)) refl refl
+  where
+    go : (known stands made : Bool) → hasTicket (ticketOf tickets team .phase) ≡ stands → wellMade (ticketOf tickets team) ≡ made
+        → refusedOr (firstFrom 6 (not known ∷ allHold (stands ∷ not made ∷ []) ∷ false ∷ not stands ∷ false ∷ false ∷ [])) words tickets (Step team)
+        ≡ aimDone words tickets frame (cond known (Aim.Team stepKind team) (Aim.Refused 6))
+    go false stands made h w = slot-kept tickets 0 (Answer.Refused 6) words
+    go true true true h w = rw (h, w) refl
+    go true true false h w = rw (h, w) (slot-kept tickets team (Answer.Refused 7) words)
+    go true false made h w = rw h (slot-kept tickets team (Answer.Refused 9) words)
+
+-- An edit: refusals 6, 7, 8, 10 and 11, or its ticket.
+edit-way : (words : Words) (tickets : Tickets) (frame : Bytes) (kind : ℕ) → kind ≤ moveKind
+    → laterDone words tickets (Open (teamIn (partAfterKind frame)) (editOfKind kind (partAfterKind frame))) ≡ aimDone words tickets frame (teamAim kind (teamIn (partAfterKind frame)))
+unfolding requestDone settledBy teamSettled allHold editRead openSettled
+edit-way words tickets frame kind most =
+    go (ltb team teamCount) (hasTicket (ticketOf tickets team .phase)) (wellMade (ticketOf tickets team)) (editInRange edit) (editRepeats edit) refl refl refl refl
+  where
+    team : ℕ
+    team = teamIn (partAfterKind frame)
+
+    edit : Edit
+    edit = editOfKind kind (partAfterKind frame)
+
+    other : eqb kind stepKind ≡ false
+    other = ne-eqb kind stepKind (λ e. omega arith)
+
+    go : (known stands made range repeats : Bool) → hasTicket (ticketOf tickets team .phase) ≡ stands → wellMade (ticketOf tickets team) ≡ made → editInRange edit ≡ range → editRepeats edit ≡ repeats
+        → refusedOr (firstFrom 6 (not known ∷ allHold (stands ∷ not made ∷ []) ∷ stands ∷ false ∷ not range ∷ repeats ∷ [])) words tickets (Open team edit)
+        ≡ aimDone words tickets frame (cond known (Aim.Team kind team) (Aim.Refused 6))
+    go false stands made range repeats h w r s = slot-kept tickets 0 (Answer.Refused 6) words
+    go true true true range repeats h w r s = rw (h, w, other) (slot-kept tickets team (Answer.Refused 8) words)
+    go true true false range repeats h w r s = rw (h, w) (slot-kept tickets team (Answer.Refused 7) words)
+    go true false made true true h w r s = rw (h, other, r, s) (slot-kept tickets team (Answer.Refused 11) words)
+    go true false made true false h w r s = rw (h, other, r, s) refl
+    go true false made false repeats h w r s = rw (h, other, r) (slot-kept tickets team (Answer.Refused 10) words)
+
+-- What the header says of the aim, the request and the kind.
+aim-by : (frame : Bytes) (header : Header) → headerOf frame ≡ header → aimOf frame ≡ aimBy frame header
+unfolding aimOf
+aim-by frame header e = ap (aimBy frame) e
+
+asked-by : (frame : Bytes) (kind : ℕ) → kindField frame ≡ kind → requestIn frame ≡ requestOfKind kind (partAfterKind frame)
+unfolding requestIn
+asked-by frame kind is = ap (λ (k : ℕ). requestOfKind k (partAfterKind frame)) is
+
+kind-below : (frame : Bytes) (kind : ℕ) → headerOf frame ≡ Header.Kind kind → (kind ≡ lookKind → ⊥) → (kind ≡ stepKind → ⊥) → kind ≤ moveKind
+kind-below frame kind header not-look not-step =
+    let (torn, unknown, wrong, is) = kind-tests frame kind header in
+    let (least, (most, u)) = split (leb addKind (kindField frame) ∷ leb (kindField frame) lookKind ∷ []) (not-false _ unknown) in
+    let below : kindField frame ≤ lookKind = leb-true _ _ most in
+    omega (arith, below, is, not-look, not-step)
+
+look-done : (words : Words) (tickets : Tickets) (frame : Bytes) → laterDone words tickets (Look (number16 (partAfterKind frame) 0)) ≡ aimDone words tickets frame Aim.Look
+unfolding settledBy
+look-done words tickets frame = look-way words tickets (number16 (partAfterKind frame) 0)
+
+module _ (words : Words) (tickets : Tickets) (frame out : Bytes) (whole : length words ≡ wordsInBook) (room : longestAnswer ≤ length out) where
+  -- Neither 1 nor 2 applies.
+  from-three : refusalOf words tickets frame out ≡ firstFrom 3 (frameTorn frame ∷ kindUnknown frame ∷ lengthWrong frame ∷ laterTests tickets (requestIn frame))
+  unfolding refusalOf refusalTests
+  from-three = rw (eq-eqb (length words) wordsInBook whole, le-ltb (length out) longestAnswer room) refl
+
+  refused-way : (number : ℕ) → headerOf frame ≡ Header.Refused number → refusalOf words tickets frame out ≡ some number → doneOf words tickets frame out ≡ wayOf words tickets frame
+  unfolding doneOf wayOf settledBy
+  refused-way number header refusal =
+      let aimed : aimOf frame ≡ Aim.Refused number = aim-by frame (Header.Refused number) header in
+      rw (refusal, aimed) (slot-kept tickets 0 (Answer.Refused number) words)
+
+  kind-way : (kind : ℕ) (aim : Aim) (request : Request) → headerOf frame ≡ Header.Kind kind → aimBy frame (Header.Kind kind) ≡ aim → requestOfKind kind (partAfterKind frame) ≡ request
+      → laterDone words tickets request ≡ aimDone words tickets frame aim
+      → doneOf words tickets frame out ≡ wayOf words tickets frame
+  unfolding doneOf wayOf
+  kind-way kind aim request header aimed asked later =
+      let (torn, unknown, wrong, is) = kind-tests frame kind header in
+      let request-is : requestIn frame ≡ request = asked-by frame kind is ∙ asked in
+      let aim-is : aimOf frame ≡ aim = aim-by frame (Header.Kind kind) header ∙ aimed in
+      let six : refusalOf words tickets frame out ≡ firstFrom 6 (laterTests tickets (requestIn frame)) = from-three ∙ (λ i. firstFrom 3 (torn i ∷ unknown i ∷ wrong i ∷ laterTests tickets (requestIn frame))) in
+      ap (λ x. refusedOr x words tickets (requestIn frame)) six
+      ∙ ap (λ r. laterDone words tickets r) request-is
+      ∙ later
+      ∙ ap (aimDone words tickets frame) (sym aim-is)
+
+  by-header : (header : Header) → headerOf frame ≡ header → doneOf words tickets frame out ≡ wayOf words tickets frame
+  by-header (Header.Refused number) e = refused-way number e (elim (refused-tests frame number e) [
+    | inl t ↦ from-three ∙ rw (t .0) (ap some (sym (t .1)))
+    | inr u ↦ elim u [
+      | inl t ↦ from-three ∙ rw (t .0, t .1) (ap some (sym (t .2)))
+      | inr t ↦ from-three ∙ rw (t .0, t .1, t .2) (ap some (sym (t .3)))
+    ]
+  ])
+  by-header (Header.Kind kind) e = elim (ℕ-discrete kind lookKind) [
+    | yes look ↦ kind-way kind Aim.Look (Look (number16 (partAfterKind frame) 0)) e (rw (eq-eqb kind lookKind look) refl) (rw look (look-asked (partAfterKind frame))) (look-done words tickets frame)
+    | no other ↦ elim (ℕ-discrete kind stepKind) [
+      | yes step ↦ kind-way kind (teamAim stepKind (teamIn (partAfterKind frame))) (Step (teamIn (partAfterKind frame))) e (rw (ne-eqb kind lookKind other, step) refl) (rw step (step-asked (partAfterKind frame))) (step-way words tickets frame (teamIn (partAfterKind frame)))
+      | no edit ↦ kind-way kind (teamAim kind (teamIn (partAfterKind frame))) (Open (teamIn (partAfterKind frame)) (editOfKind kind (partAfterKind frame))) e (rw (ne-eqb kind lookKind other) refl) (edit-asked kind (partAfterKind frame) (kind-below frame kind e other edit)) (edit-way words tickets frame kind (kind-below frame kind e other edit))
+    ]
+  ]
+
+pub way-is-call : WayIsCall
+way-is-call words tickets frame out whole room = by-header words tickets frame out whole room (headerOf frame) refl

@@ -1,0 +1,140 @@
+-- A table whose tickets are all well made stays so: the step keeps a ticket well made or ends it, and an edit opens one that is.
+use Prim.Native.Nat.{ℕ, zero, suc, _+_, _-_, _<_, _≤_}
+use mathlib.Core.Path.{_≡_, refl, sym, ap, subst, _∙_}
+use mathlib.Core.List.{List, [], _∷_}
+use mathlib.Core.Logic.{inl, inr}
+use mathlib.Core.Bool.{Bool, true, false, cond, not, false≢true}
+use native.Mathlib.Omega.{arith}
+use native.Mathlib.Decide.{ℕ-discrete}
+use borrow.Author.Tests.{lt-ltb}
+use lib.Dec.{eqb}
+use lib.ListN.{getD, set, take, drop}
+use Rattle.words.specs.Words.{Words, teamCount}
+use Rattle.words.proofs.Tests.{join}
+use Rattle.tickets.specs.declared.Ticket.{Ticket}
+use Rattle.tickets.specs.declared.Tickets.{Tickets}
+use Rattle.tickets.specs.Tickets.{noTicket, absentSlot, ticketOf, withTicket, hasTicket, wellMade}
+use Rattle.tickets.specs.Steps.{stepOf}
+use Rattle.tickets.proofs.WellMade.{well-made-kept}
+use Rattle.edits.specs.declared.Edit.{Edit}
+use Rattle.edits.specs.Ranges.{editInRange, editRepeats}
+use Rattle.edits.specs.Opened.{openedTicket}
+use Rattle.edits.proofs.Stored.{opened-tickets-well-made}
+use Rattle.frames.specs.declared.Answer.the-variants as Answer
+use Rattle.frames.specs.declared.EditRead.the-variants as EditRead
+use Rattle.frames.specs.Numbers.{Bytes, areBytes}
+use Rattle.frames.specs.Requests.{partAfterKind, stepKind, editOfKind}
+use Rattle.frames.specs.Fields.{editRead}
+use Rattle.frames.proofs.Asked.{edit-stations}
+use Rattle.frames.proofs.Bytes.{first-byte, bytes-after}
+use Rattle.calls.specs.declared.Aim.{Aim}
+use Rattle.calls.specs.declared.Aim.the-variants as Aim
+use Rattle.calls.specs.declared.Settled.{Settled}
+use Rattle.calls.specs.Way.{SlotWellMade, TableWellMade, slotWellMade, wellMadeFrom, settled, lookSettled, openSettled, stepSettled, teamSettled, settledBy}
+
+-- Bytes one by one, and the first of them.
+pub each-byte : (bytes : Bytes) → ((at : ℕ) → getD bytes at 0 < 256) → areBytes bytes ≡ true
+unfolding areBytes
+each-byte [] each = refl
+each-byte (byte ∷ bytes) each = rw (lt-ltb byte 256 (each 0)) (each-byte bytes (λ at. each (suc at)))
+
+pub bytes-before : (many : ℕ) (bytes : Bytes) → areBytes bytes ≡ true → areBytes (take many bytes) ≡ true
+unfolding areBytes
+bytes-before zero bytes h = refl
+bytes-before (suc many) [] h = refl
+bytes-before (suc many) (byte ∷ bytes) h = rw (lt-ltb byte 256 (first-byte byte bytes h .0)) (bytes-before many bytes (first-byte byte bytes h .1))
+
+-- A slot without a ticket passes, and the test of a slot says that it does.
+empty-well-made : (ticket : Ticket) → hasTicket (ticket .phase) ≡ false → SlotWellMade ticket
+empty-well-made ticket empty stands = absurd (false≢true (sym empty ∙ stands))
+
+test-well-made : (ticket : Ticket) → slotWellMade ticket ≡ true → SlotWellMade ticket
+test-well-made ticket tested stands = go (hasTicket (ticket .phase)) stands tested
+  where
+    go : (has : Bool) → has ≡ true → cond has (wellMade ticket) true ≡ true → wellMade ticket ≡ true
+    go true s t = t
+    go false s t = absurd (false≢true s)
+
+-- The slots from one on, tested one after another.
+pub well-made-next : (tickets : Tickets) (k : ℕ) → k < teamCount → wellMadeFrom k (teamCount - k) tickets ≡ cond (slotWellMade (ticketOf tickets k)) (wellMadeFrom (k + 1) (teamCount - (k + 1)) tickets) false
+unfolding wellMadeFrom
+well-made-next tickets k inside =
+    let one-more : teamCount - k ≡ suc (teamCount - (k + 1)) = omega arith in
+    ap (λ (m : ℕ). wellMadeFrom k m tickets) one-more
+
+pub well-made-none : (tickets : Tickets) (k : ℕ) → teamCount ≤ k → wellMadeFrom k (teamCount - k) tickets ≡ true
+unfolding wellMadeFrom
+well-made-none tickets k outside =
+    let none : teamCount - k ≡ 0 = omega arith in
+    ap (λ (m : ℕ). wellMadeFrom k m tickets) none
+
+each-from : (tickets : Tickets) (many k : ℕ) → wellMadeFrom k many tickets ≡ true → (team : ℕ) → k ≤ team → team < k + many → SlotWellMade (ticketOf tickets team)
+unfolding wellMadeFrom
+each-from tickets zero k all team least below = absurd (empty least below)
+  where
+    empty : k ≤ team → team < k + 0 → ⊥
+    empty a b = omega arith
+each-from tickets (suc many) k all team least below = go (slotWellMade (ticketOf tickets k)) refl all (λ later first last. each-from tickets many (k + 1) later team first last)
+  where
+    go : (here : Bool) → slotWellMade (ticketOf tickets k) ≡ here → cond here (wellMadeFrom (k + 1) many tickets) false ≡ true
+        → (wellMadeFrom (k + 1) many tickets ≡ true → k + 1 ≤ team → team < k + 1 + many → SlotWellMade (ticketOf tickets team)) → SlotWellMade (ticketOf tickets team)
+    go true is later rest = elim (ℕ-discrete team k) [
+      | yes same ↦ subst (λ (t : ℕ). SlotWellMade (ticketOf tickets t)) (sym same) (test-well-made (ticketOf tickets k) is)
+      | no other ↦ rest later (omega arith) (omega arith)
+    ]
+    go false is later rest = absurd (false≢true later)
+
+pub all-well-made : (tickets : Tickets) → wellMadeFrom 0 teamCount tickets ≡ true → TableWellMade tickets
+all-well-made tickets all team inside = each-from tickets teamCount 0 all team (omega arith) (omega arith)
+
+-- Another ticket in one slot.
+set-well-made : (In : ℕ → Type 0) (slots : List Ticket) (slot : ℕ) (ticket : Ticket) → ((team : ℕ) → In team → SlotWellMade (getD slots team absentSlot)) → SlotWellMade ticket
+    → (team : ℕ) → In team → SlotWellMade (getD (set slots slot ticket) team absentSlot)
+set-well-made In [] slot ticket each mine team inside = each team inside
+set-well-made In (first ∷ slots) zero ticket each mine zero inside = mine
+set-well-made In (first ∷ slots) zero ticket each mine (suc team) inside = each (suc team) inside
+set-well-made In (first ∷ slots) (suc slot) ticket each mine zero inside = each zero inside
+set-well-made In (first ∷ slots) (suc slot) ticket each mine (suc team) inside = set-well-made (λ t. In (suc t)) slots slot ticket (λ t. each (suc t)) mine team inside
+
+pub with-well-made : (tickets : Tickets) (slot : ℕ) (ticket : Ticket) → TableWellMade tickets → SlotWellMade ticket → TableWellMade (withTicket tickets slot ticket)
+with-well-made tickets slot ticket all mine = set-well-made (λ team. team < teamCount) (tickets .slots) slot ticket all mine
+
+-- What a frame makes of a slot that passes, passes.
+step-well-made : (words : Words) (ticket : Ticket) (team : ℕ) → wellMade ticket ≡ true → SlotWellMade (stepOf words ticket team .0 .ticket)
+step-well-made words ticket team made = elim (well-made-kept words ticket team made) [
+  | inl kept ↦ λ stands. kept
+  | inr gone ↦ empty-well-made (stepOf words ticket team .0 .ticket) (ap (λ (t : Ticket). hasTicket (t .phase)) gone)
+]
+
+open-well-made : (ticket : Ticket) (kind : ℕ) (part : Bytes) → areBytes part ≡ true → SlotWellMade ticket → SlotWellMade (openSettled ticket (editRead (editOfKind kind part)) .ticket)
+unfolding openSettled editRead
+open-well-made ticket kind part bytes sound = go (editInRange edit) (editRepeats edit) refl refl
+  where
+    edit : Edit
+    edit = editOfKind kind part
+
+    go : (range repeats : Bool) → editInRange edit ≡ range → editRepeats edit ≡ repeats
+        → SlotWellMade (openSettled ticket (cond range (cond repeats (EditRead.Refused 11) (EditRead.Is edit)) (EditRead.Refused 10)) .ticket)
+    go true true r s = sound
+    go true false r s = λ stands. opened-tickets-well-made edit (join (editInRange edit ∷ not (editRepeats edit) ∷ []) (r, (ap not s, tt))) (edit-stations kind part bytes)
+    go false repeats r s = sound
+
+team-well-made : (words : Words) (ticket : Ticket) (part : Bytes) (kind team : ℕ) → areBytes part ≡ true → SlotWellMade ticket → SlotWellMade (teamSettled words ticket part kind team .0 .ticket)
+unfolding teamSettled
+team-well-made words ticket part kind team bytes sound = go (hasTicket (ticket .phase)) (wellMade ticket) (eqb kind stepKind) refl
+  where
+    go : (stands made step : Bool) → wellMade ticket ≡ made
+        → SlotWellMade ((cond {A = Settled × Words} stands
+        (cond made (cond step (stepSettled (stepOf words ticket team)) (settled ticket (Answer.Refused 8), words)) (settled ticket (Answer.Refused 7), words))
+        (cond step (settled ticket (Answer.Refused 9), words) (openSettled ticket (editRead (editOfKind kind part)), words))) .0 .ticket)
+    go true true true m = step-well-made words ticket team m
+    go true true false m = sound
+    go true false step m = sound
+    go false made true m = sound
+    go false made false m = open-well-made ticket kind part bytes sound
+
+pub settled-well-made : (words : Words) (ticket : Ticket) (frame : Bytes) (aim : Aim) → areBytes frame ≡ true → SlotWellMade ticket → SlotWellMade (settledBy words ticket frame aim .0 .ticket)
+unfolding settledBy lookSettled
+settled-well-made words ticket frame (Aim.Refused number) bytes sound = sound
+settled-well-made words ticket frame Aim.Look bytes sound = sound
+settled-well-made words ticket frame (Aim.Team kind team) bytes sound = team-well-made words ticket (partAfterKind frame) kind team (bytes-after 4 frame bytes) sound

@@ -1,0 +1,136 @@
+-- The call: "Frames refused, in checking order", and what a frame that is not refused does.
+use Prim.Native.Nat.{ℕ, _+_}
+use mathlib.Core.List.{List, [], _∷_}
+use mathlib.Core.Bool.{Bool, false, cond, not}
+use mathlib.Core.Option.{Option, none, some}
+use lib.ListN.{length}
+use lib.Dec.{eqb, ltb}
+use Rattle.words.specs.Tests.{allHold}
+use Rattle.words.specs.Words.{Words, wordsInBook, teamCount}
+use Rattle.tickets.specs.declared.Ticket.{Ticket}
+use Rattle.tickets.specs.declared.Tickets.{Tickets}
+use Rattle.tickets.specs.declared.Stepped.{Stepped}
+use Rattle.tickets.specs.Tickets.{ticketOf, withTicket, hasTicket, wellMade}
+use Rattle.tickets.specs.Steps.{stepOf, lookOf}
+use Rattle.edits.specs.Opened.{targetCount, openedTicket}
+use Rattle.frames.specs.declared.Request.{Request}
+use Rattle.frames.specs.declared.Request.the-variants.{Open, Step, Look}
+use Rattle.frames.specs.declared.Answer.{Answer}
+use Rattle.frames.specs.declared.Answer.the-variants as Answer
+use Rattle.frames.specs.Numbers.{Bytes}
+use Rattle.frames.specs.Requests.{requestIn}
+use Rattle.frames.specs.Answers.{answerFrame, longestAnswer, written}
+use Rattle.frames.specs.Fields.{frameTorn, kindUnknown, lengthWrong, fieldOutOfRange, fieldRepeated}
+use Rattle.calls.specs.declared.Reply.{Reply}
+
+-- 1. The book isn't 4,096 words long.
+abbrev pub bookLengthWrong : Words → Bool
+bookLengthWrong words = not (eqb (length words) wordsInBook)
+
+-- 2. The output is shorter than 12 bytes.
+abbrev pub outputShort : Bytes → Bool
+outputShort out = ltb (length out) longestAnswer
+
+-- 6. The team is above 15. (A look has no team.)
+abbrev pub teamUnknown : Request → Bool
+teamUnknown (Open team edit) = not (ltb team teamCount)
+teamUnknown (Step team) = not (ltb team teamCount)
+teamUnknown (Look word) = false
+
+-- 7. The team's own ticket isn't well made.
+abbrev pub badlyMade : Ticket → Bool
+badlyMade ticket = allHold (hasTicket (ticket .phase) ∷ not (wellMade ticket) ∷ [])
+
+abbrev pub ownTicketBadlyMade : Tickets → Request → Bool
+ownTicketBadlyMade tickets (Open team edit) = badlyMade (ticketOf tickets team)
+ownTicketBadlyMade tickets (Step team) = badlyMade (ticketOf tickets team)
+ownTicketBadlyMade tickets (Look word) = false
+
+-- 8. An edit comes from a team with a ticket.
+abbrev pub editWithTicket : Tickets → Request → Bool
+editWithTicket tickets (Open team edit) = hasTicket (ticketOf tickets team .phase)
+editWithTicket tickets (Step team) = false
+editWithTicket tickets (Look word) = false
+
+-- 9. A step comes from a team without one.
+abbrev pub stepWithoutTicket : Tickets → Request → Bool
+stepWithoutTicket tickets (Open team edit) = false
+stepWithoutTicket tickets (Step team) = not (hasTicket (ticketOf tickets team .phase))
+stepWithoutTicket tickets (Look word) = false
+
+-- The refusals' tests, in checking order, 1 to 11.
+unfoldable pub refusalTests : Words → Tickets → Bytes → Bytes → List Bool
+refusalTests words tickets frame out =
+    let request = requestIn frame in
+    bookLengthWrong words
+    ∷ outputShort out
+    ∷ frameTorn frame
+    ∷ kindUnknown frame
+    ∷ lengthWrong frame
+    ∷ teamUnknown request
+    ∷ ownTicketBadlyMade tickets request
+    ∷ editWithTicket tickets request
+    ∷ stepWithoutTicket tickets request
+    ∷ fieldOutOfRange request
+    ∷ fieldRepeated request
+    ∷ []
+
+-- The number of the first test that applies, if one does.
+abbrev pub firstFrom : ℕ → List Bool → Option ℕ
+firstFrom number [] = none
+firstFrom number (applies ∷ later) = cond applies (some number) (firstFrom (number + 1) later)
+
+-- "The first that applies is given, and none otherwise."
+unfoldable pub refusalOf : Words → Tickets → Bytes → Bytes → Option ℕ
+refusalOf words tickets frame out = firstFrom 1 (refusalTests words tickets frame out)
+
+-- What a call does before it is answered: the answer, the tickets and the words that it leaves.
+pub record Done : Type 0 where
+  pub answer : Answer
+  pub tickets : Tickets
+  pub words : Words
+
+abbrev pub done : Answer → Tickets → Words → Done
+done answer tickets words = record { answer = answer; tickets = tickets; words = words }
+
+-- A step: the team's ticket and the words as the step leaves them.
+abbrev pub stepDone : Tickets → ℕ → Stepped × Words → Done
+stepDone tickets team result = done (Answer.Step (result .0 .answer)) (withTicket tickets team (result .0 .ticket)) (result .1)
+
+-- What a request does: an edit opens a ticket and changes no word (Standing); a step is one swap; a look is one read.
+unfoldable pub requestDone : Words → Tickets → Request → Done
+requestDone words tickets (Open team edit) = done (Answer.Standing (targetCount edit)) (withTicket tickets team (openedTicket edit)) words
+requestDone words tickets (Step team) = stepDone tickets team (stepOf words (ticketOf tickets team) team)
+requestDone words tickets (Look word) = done (Answer.Look (lookOf words word)) tickets words
+
+-- A refusal, where "book and tickets keep every value", or what the request does.
+abbrev pub refusedOr : Option ℕ → Words → Tickets → Request → Done
+refusedOr none words tickets request = requestDone words tickets request
+refusedOr (some number) words tickets request = done (Answer.Refused number) tickets words
+
+unfoldable pub doneOf : Words → Tickets → Bytes → Bytes → Done
+doneOf words tickets frame out = refusedOr (refusalOf words tickets frame out) words tickets (requestIn frame)
+
+-- What goes out: a number alone, or the bytes of an answer.
+pub data Sent : Type 0 where
+  number : ℕ → Sent
+  bytes : Bytes → Sent
+
+-- "1 and 2 return their number and write nothing; 3 to 11 write a Refused frame."
+unfoldable pub sentOf : Answer → Sent
+sentOf (Answer.Standing n) = bytes (answerFrame (Answer.Standing n))
+sentOf (Answer.Step answer) = bytes (answerFrame (Answer.Step answer))
+sentOf (Answer.Look answer) = bytes (answerFrame (Answer.Look answer))
+sentOf (Answer.Refused refusal) = cond (ltb refusal 3) (number refusal) (bytes (answerFrame (Answer.Refused refusal)))
+
+-- The number returned, and the output: "later bytes of the output keep their contents".
+abbrev pub writtenBy : Bytes → Sent → ℕ × Bytes
+writtenBy out (number refusal) = (refusal, out)
+writtenBy out (bytes answer) = written out answer
+
+-- What the call does, for every book, table, frame and output: return and tickets, the words, the output's bytes.
+unfoldable pub callOf : Words → Tickets → Bytes → Bytes → Reply × Words × Bytes
+callOf words tickets frame out =
+    let result = doneOf words tickets frame out in
+    let output = writtenBy out (sentOf (result .answer)) in
+    (record { written = output .0; tickets = result .tickets }, result .words, output .1)

@@ -1,0 +1,11 @@
+pub mod Call
+pub mod Way
+pub mod Run
+pub mod Order
+pub mod Linearizable
+pub mod Demand1
+pub mod Demand2
+pub mod Survey
+pub mod Stream
+pub mod Pieces
+pub mod Bench

@@ -1,0 +1,165 @@
+-- Demand 3: one claim about every list of calls.
+use Prim.Native.Nat.{ℕ, _+_, _*_, _<_, min}
+use mathlib.Core.Path.{_≡_}
+use mathlib.Core.List.{List, [], _∷_, _++_, map}
+use mathlib.Core.Bool.{false, cond}
+use mathlib.Core.Option.{Option, none, some}
+use mathlib.Core.Logic.{_⊎_}
+use lib.ListN.{length}
+use Rattle.words.specs.Words.{Words, wordsInBook, readOf, markOf}
+use Rattle.tickets.specs.Tickets.{ticketOf}
+use Rattle.tickets.specs.Steps.{mostTries}
+use Rattle.tickets.specs.Targets.{targetIn}
+use Rattle.edits.specs.declared.Edit.{Edit}
+use Rattle.edits.specs.Opened.{storedTargets, targetCount}
+use Rattle.plain.specs.Plain.{Plain, freshPlain, wordOf, legsInBook, Sound}
+use Rattle.plain.specs.Editing.{succeeds, attempt, addsIn, strikesIn}
+use Rattle.calls.specs.Call.{bookLengthWrong, badlyMade}
+use Rattle.calls.specs.Run.{Call, OfBytes, Heard, run}
+use Rattle.calls.specs.Order.{Verdict, granted, stale, Event, decided, looked, Decision, Noted, Last, wasGranted, wasStale, Ended, order, ended, notesOn, HeldBy}
+
+-- What the plain book is fed: an edit to try, or a word to look at. Neither a verdict nor a value that was heard.
+pub data Deed : Type 0 where
+  try : Edit → Deed
+  look : (word : ℕ) → Deed
+
+abbrev pub deedOf : Event → Deed
+deedOf (decided verdict edit) = try edit
+deedOf (looked word value) = look word
+
+-- The plain book finds for itself whether an edit succeeds; for a look it stays.
+abbrev pub feed : Plain → Deed → Plain
+feed plain (try edit) = attempt plain edit
+feed plain (look word) = plain
+
+unfoldable pub playFrom : Plain → List Deed → Plain
+playFrom plain [] = plain
+playFrom plain (deed ∷ deeds) = playFrom (feed plain deed) deeds
+
+-- The plain book when all events of an order are done on it, one after another, from a fresh one.
+abbrev pub play : List Event → Plain
+play events = playFrom freshPlain (map deedOf events)
+
+-- What the plain book finds of an edit.
+abbrev pub verdictOf : Plain → Edit → Verdict
+verdictOf plain edit = cond (succeeds plain edit) granted stale
+
+-- A count over the edits of the tickets decided as granted.
+abbrev pub grantedIn : (Edit → ℕ) → Event → ℕ
+grantedIn count (decided granted edit) = count edit
+grantedIn count (decided stale edit) = 0
+grantedIn count (looked word value) = 0
+
+unfoldable pub grantedOf : (Edit → ℕ) → List Event → ℕ
+grantedOf count [] = 0
+grantedOf count (event ∷ events) = grantedIn count event + grantedOf count events
+
+-- A decision is what the plain book finds at that turn.
+abbrev pub DecisionRight : Edit → Decision → Type 0
+DecisionRight edit decision = decision .verdict ≡ verdictOf (play (decision .before)) edit
+
+-- A word that was named as the one that differed: that of the target after those claimed, whose plain word at the decision is not the quoted value.
+pub record Differed (ticket : Noted) (decision : Decision) (word : ℕ) : Type 0 where
+  pub named : word ≡ targetIn (storedTargets (ticket .edit)) (length (ticket .claimed)) .word
+  pub differs : wordOf (play (decision .before)) word ≡ targetIn (storedTargets (ticket .edit)) (length (ticket .claimed)) .quoted → ⊥
+
+-- Stale repeats the word that Found named; where no Found came, nothing was claimed.
+abbrev pub Repeats : Option ℕ → ℕ → List ℕ → Type 0
+Repeats none word claimed = length claimed ≡ 0
+Repeats (some found) word claimed = word ≡ found
+
+-- The last answer fits the ticket's one decision: Granted if it was granted, Stale if stale, naming the word that differed.
+abbrev pub LastFits : Noted → Decision → Last → Type 0
+LastFits ticket decision (wasGranted tries) = decision .verdict ≡ granted
+LastFits ticket decision (wasStale word tries) = (decision .verdict ≡ stale) × Differed ticket decision word × Repeats (ticket .found) word (ticket .claimed)
+
+-- A ticket that ended was decided exactly once, as the plain book finds, and its last answer fits that.
+pub record EndedRight (end : Ended) : Type 0 where
+  pub decision : Decision
+  pub once : end .ticket .decisions ≡ decision ∷ []
+  pub right : DecisionRight (end .ticket .edit) decision
+  pub fits : LastFits (end .ticket) decision (end .last)
+
+-- What Found named of a ticket still standing, by its decision: nothing if granted, the word that differed if stale.
+abbrev pub FoundFits : Noted → Decision → Verdict → Option ℕ → Type 0
+FoundFits ticket decision granted found = found ≡ none
+FoundFits ticket decision stale none = ⊥
+FoundFits ticket decision stale (some word) = Differed ticket decision word
+
+-- A ticket still standing is not decided yet, and no Found came; or it was decided once, as the plain book finds.
+abbrev pub DecidedAtMostOnce : Noted → Type 0
+DecidedAtMostOnce ticket =
+    ((ticket .decisions ≡ []) × (ticket .found ≡ none))
+    ⊎ ((decision : Decision) × (ticket .decisions ≡ decision ∷ []) × DecisionRight (ticket .edit) decision × FoundFits ticket decision (decision .verdict) (ticket .found))
+
+abbrev pub StandingRight : Option Noted → Type 0
+StandingRight none = Unit {0}
+StandingRight (some ticket) = DecidedAtMostOnce ticket
+
+-- The tries that a last answer tells.
+abbrev pub triesIn : Last → ℕ
+triesIn (wasGranted tries) = tries
+triesIn (wasStale word tries) = tries
+
+-- "A granted ticket has tries of 2n plus its waits": so many steps were answered.
+abbrev pub StepsOf : Last → Noted → Type 0
+StepsOf (wasGranted tries) ticket = ticket .steps ≡ 2 * targetCount (ticket .edit) + ticket .waits
+StepsOf (wasStale word tries) ticket = Unit {0}
+
+-- A last answer's tries are the steps answered since Standing, that one included, up to the stop.
+abbrev pub TriesRight : Ended → Type 0
+TriesRight end = (triesIn (end .last) ≡ min (end .ticket .steps) mostTries) × StepsOf (end .last) (end .ticket)
+
+abbrev pub Every : {A : Type 0} → (A → Type 0) → List A → Type 0
+Every P [] = Unit {0}
+Every P (item ∷ items) = P item × Every P items
+
+-- Of a list of calls: what was heard, the order, the plain book it makes, and the book's words that the calls left.
+abbrev pub heardOn : List Call → List Heard
+heardOn calls = run calls .heard
+
+abbrev pub orderOf : List Call → List Event
+orderOf calls = order (heardOn calls)
+
+abbrev pub plainAfter : List Call → Plain
+plainAfter calls = play (orderOf calls)
+
+abbrev pub bookAfter : List Call → Words
+bookAfter calls = run calls .end .book
+
+-- Of a list of calls: the order of what was heard is one of whole edits and looks, done one after another on the plain book.
+pub record Linearizable (calls : List Call) : Type 0 where
+  -- Every ticket decided as granted succeeds on the plain book at its turn, and every one decided as stale doesn't.
+  pub granted-succeed : (before after : List Event) (verdict : Verdict) (edit : Edit)
+      → orderOf calls ≡ before ++ (decided verdict edit ∷ after)
+      → verdict ≡ verdictOf (play before) edit
+  -- Every value looked at is the plain book's word at that turn.
+  pub looks-agree : (before after : List Event) (word value : ℕ)
+      → orderOf calls ≡ before ++ (looked word value ∷ after)
+      → value ≡ wordOf (play before) word
+  -- Every word that no ticket holds is the plain book's.
+  pub words-agree : (word : ℕ)
+      → word < wordsInBook
+      → ((team : ℕ) → ¬ HeldBy (heardOn calls) team word)
+      → readOf (bookAfter calls) word ≡ wordOf (plainAfter calls) word
+  -- A ticket's last answer, once it has come, is Granted if its edit succeeded and Stale if not; no ticket is decided twice or ends undecided.
+  pub last-answers : Every EndedRight (ended (heardOn calls))
+  -- A ticket still standing is decided at most once, and Found named the word that differed.
+  pub decided-once : (team : ℕ) → StandingRight (notesOn (heardOn calls) .tickets team)
+  -- The counts of all passages sum to granted adds less granted strikes.
+  pub counts-add-up : legsInBook (plainAfter calls) + grantedOf strikesIn (orderOf calls) ≡ grantedOf addsIn (orderOf calls)
+  -- A word that a ticket holds is its team's mark, so that no word too many is taken for held.
+  pub held-marked : (team word : ℕ) → HeldBy (heardOn calls) team word → readOf (bookAfter calls) word ≡ markOf team
+  -- The plain book keeps its rules: all in range, from other than to, no number twice.
+  pub plain-sound : Sound (plainAfter calls)
+  -- The book stays whole and every team's ticket well made, so that refusals 1 and 7 never come.
+  pub stays-whole : bookLengthWrong (bookAfter calls) ≡ false
+  pub stays-well-made : (team : ℕ) → badlyMade (ticketOf (run calls .end .tickets) team) ≡ false
+  -- A last answer's tries are the steps answered; a granted ticket's are 2n plus its waits.
+  pub tries-add-up : Every TriesRight (ended (heardOn calls))
+  -- Every call was answered by an answer that fits its frame, no Standing came over a ticket and no step's answer without one.
+  pub in-turn : notesOn (heardOn calls) .outOfTurn ≡ 0
+
+-- Statement: "It is a single claim about the list, not one for each call."
+abbrev pub Demand3 : Type 0
+Demand3 = (calls : List Call) → Every OfBytes calls → Linearizable calls

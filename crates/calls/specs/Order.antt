@@ -1,0 +1,216 @@
+-- "A ticket's edit is the edit frame that opened it …": the order, the tickets that ended, and what is held, from frames and answers alone.
+use Prim.Native.Nat.{ℕ, _+_}
+use mathlib.Core.Path.{_≡_}
+use mathlib.Core.List.{List, [], _∷_, _++_}
+use mathlib.Core.Bool.{Bool, true, false, cond, not}
+use mathlib.Core.Option.{Option, none, some}
+use lib.Dec.{eqb}
+use Rattle.words.specs.Tests.{allHold, someHolds}
+use Rattle.legs.specs.Positions.{occurs}
+use Rattle.tickets.specs.declared.Target.{Target}
+use Rattle.tickets.specs.declared.StepAnswer.{StepAnswer}
+use Rattle.tickets.specs.declared.StepAnswer.the-variants.{Claimed, Waiting, Found, Put, Returned, Granted, Stale}
+use Rattle.tickets.specs.declared.LookAnswer.{LookAnswer}
+use Rattle.tickets.specs.declared.LookAnswer.the-variants.{Value, Held}
+use Rattle.edits.specs.declared.Edit.{Edit}
+use Rattle.edits.specs.Opened.{storedTargets, targetCount}
+use Rattle.frames.specs.declared.Request.{Request}
+use Rattle.frames.specs.declared.Request.the-variants.{Open, Step, Look}
+use Rattle.frames.specs.declared.Answer.{Answer}
+use Rattle.frames.specs.declared.Answer.the-variants as Answer
+use Rattle.frames.specs.Requests.{requestIn}
+use Rattle.calls.specs.Run.{Call, framed, Heard, answerHeard}
+
+pub data Verdict : Type 0 where
+  granted stale : Verdict
+
+-- What has a place in the order: a ticket's edit, decided as granted or as stale; a look at a word, with the value it gave.
+pub data Event : Type 0 where
+  decided : Verdict → Edit → Event
+  looked : (word value : ℕ) → Event
+
+-- A decision of a ticket: what it was, and the order before it.
+pub record Decision : Type 0 where
+  pub verdict : Verdict
+  pub before : List Event
+
+-- What has been heard of a ticket since its Standing.
+pub record Noted : Type 0 where
+  pub edit : Edit
+  -- the k of each Claimed k, and of each Put k and Returned k, the latest first
+  pub claimed : List ℕ
+  pub released : List ℕ
+  -- how many steps were answered, and how many of them Waiting
+  pub steps : ℕ
+  pub waits : ℕ
+  -- the word that Found named
+  pub found : Option ℕ
+  -- every decision, the latest first
+  pub decisions : List Decision
+
+-- The last answer of a ticket: Granted with its tries, or Stale with the word it named and its tries.
+pub data Last : Type 0 where
+  wasGranted : (tries : ℕ) → Last
+  wasStale : (word tries : ℕ) → Last
+
+-- A ticket whose last answer has come: what was heard of it, and that answer.
+pub record Ended : Type 0 where
+  pub ticket : Noted
+  pub last : Last
+
+-- What a bystander has written down: the order so far, each team's ticket, the tickets that ended, and how often an answer came out
+-- of turn: a Standing over a ticket still noted or with another number of targets, a step's answer where no ticket is noted, an answer
+-- that does not fit its frame, or bytes that are no answer.
+pub record Notes : Type 0 where
+  pub order : List Event
+  pub tickets : ℕ → Option Noted
+  pub ended : List Ended
+  pub outOfTurn : ℕ
+
+abbrev pub notes : List Event → (ℕ → Option Noted) → List Ended → ℕ → Notes
+notes order tickets ended outOfTurn = record { order = order; tickets = tickets; ended = ended; outOfTurn = outOfTurn }
+
+abbrev pub noNotes : Notes
+noNotes = notes [] (λ team. none) [] 0
+
+-- The tickets with another for one team.
+abbrev pub retold : (ℕ → Option Noted) → ℕ → Option Noted → ℕ → Option Noted
+retold tickets team ticket other = cond (eqb other team) ticket (tickets other)
+
+-- One more event; one team's ticket noted anew; one team's ticket ended, and gone; one more answer out of turn.
+abbrev pub noteEvent : Notes → Event → Notes
+noteEvent n event = notes (n .order ++ (event ∷ [])) (n .tickets) (n .ended) (n .outOfTurn)
+
+abbrev pub noteTicket : Notes → ℕ → Noted → Notes
+noteTicket n team ticket = notes (n .order) (retold (n .tickets) team (some ticket)) (n .ended) (n .outOfTurn)
+
+abbrev pub noteEnd : Notes → ℕ → Ended → Notes
+noteEnd n team end = notes (n .order) (retold (n .tickets) team none) (n .ended ++ (end ∷ [])) (n .outOfTurn)
+
+abbrev pub noteOutOfTurn : Notes → Notes
+noteOutOfTurn n = notes (n .order) (n .tickets) (n .ended) (n .outOfTurn + 1)
+
+-- A ticket noted: at Standing; with one more Claimed k; one more Put k or Returned k; one more Waiting; one more step; Found; one more decision.
+abbrev pub noted : Edit → List ℕ → List ℕ → ℕ → ℕ → Option ℕ → List Decision → Noted
+noted edit claimed released steps waits found decisions =
+    record { edit = edit; claimed = claimed; released = released; steps = steps; waits = waits; found = found; decisions = decisions }
+
+abbrev pub atStanding : Edit → Noted
+atStanding edit = noted edit [] [] 0 0 none []
+
+abbrev pub withClaimed : ℕ → Noted → Noted
+withClaimed k t = noted (t .edit) (k ∷ t .claimed) (t .released) (t .steps) (t .waits) (t .found) (t .decisions)
+
+abbrev pub withReleased : ℕ → Noted → Noted
+withReleased k t = noted (t .edit) (t .claimed) (k ∷ t .released) (t .steps) (t .waits) (t .found) (t .decisions)
+
+abbrev pub withWait : Noted → Noted
+withWait t = noted (t .edit) (t .claimed) (t .released) (t .steps) (t .waits + 1) (t .found) (t .decisions)
+
+abbrev pub withStep : Noted → Noted
+withStep t = noted (t .edit) (t .claimed) (t .released) (t .steps + 1) (t .waits) (t .found) (t .decisions)
+
+abbrev pub withFound : ℕ → Noted → Noted
+withFound word t = noted (t .edit) (t .claimed) (t .released) (t .steps) (t .waits) (some word) (t .decisions)
+
+abbrev pub withDecision : Verdict → List Event → Noted → Noted
+withDecision verdict before t =
+    noted (t .edit) (t .claimed) (t .released) (t .steps) (t .waits) (t .found) (record { verdict = verdict; before = before } ∷ t .decisions)
+
+abbrev pub endedBy : Noted → Last → Ended
+endedBy ticket last = record { ticket = ticket; last = last }
+
+-- The ticket is decided now: its edit has its place in the order.
+abbrev pub decide : Notes → ℕ → Verdict → Noted → Notes
+decide n team verdict ticket = noteEvent (noteTicket n team (withDecision verdict (n .order) ticket)) (decided verdict (ticket .edit))
+
+-- "decided as granted at the step answered Claimed with the number of its edit's targets",
+abbrev pub hearClaimed : Notes → ℕ → Noted → ℕ → Notes
+hearClaimed n team ticket k =
+    cond (eqb k (targetCount (ticket .edit))) (decide n team granted (withClaimed k ticket)) (noteTicket n team (withClaimed k ticket))
+
+-- "and as stale at Found, or at Stale with no Found before it in that ticket".
+abbrev pub hearStale : Notes → ℕ → Noted → Option ℕ → Last → Notes
+hearStale n team ticket none last =
+    noteEnd (noteEvent n (decided stale (ticket .edit))) team (endedBy (withDecision stale (n .order) ticket) last)
+hearStale n team ticket (some word) last = noteEnd n team (endedBy ticket last)
+
+abbrev pub hearStepAnswer : Notes → ℕ → Noted → StepAnswer → Notes
+hearStepAnswer n team ticket (Claimed k) = hearClaimed n team ticket k
+hearStepAnswer n team ticket (Waiting word) = noteTicket n team (withWait ticket)
+hearStepAnswer n team ticket (Found word) = decide n team stale (withFound word ticket)
+hearStepAnswer n team ticket (Put k) = noteTicket n team (withReleased k ticket)
+hearStepAnswer n team ticket (Returned k) = noteTicket n team (withReleased k ticket)
+hearStepAnswer n team ticket (Granted tries) = noteEnd n team (endedBy ticket (wasGranted tries))
+hearStepAnswer n team ticket (Stale word tries) = hearStale n team ticket (ticket .found) (wasStale word tries)
+
+-- A step's answer, for a team whose ticket is noted or not.
+abbrev pub hearStep : Notes → ℕ → Option Noted → StepAnswer → Notes
+hearStep n team none answer = noteOutOfTurn n
+hearStep n team (some ticket) answer = hearStepAnswer n team (withStep ticket) answer
+
+-- An edit answered Standing opens a ticket.
+abbrev pub hearStanding : Notes → ℕ → Option Noted → Edit → Notes
+hearStanding n team none edit = noteTicket n team (atStanding edit)
+hearStanding n team (some ticket) edit = noteOutOfTurn (noteTicket n team (atStanding edit))
+
+-- A look is decided at Value.
+abbrev pub hearLook : Notes → ℕ → LookAnswer → Notes
+hearLook n word (Value value) = noteEvent n (looked word value)
+hearLook n word Held = n
+
+-- "Nothing else has a place in the order, and every refusal is passed over." An answer that does not fit its frame is out of turn.
+abbrev pub hearRequest : Notes → Request → Answer → Notes
+hearRequest n (Open team edit) (Answer.Standing targets) = cond (eqb targets (targetCount edit)) (hearStanding n team (n .tickets team) edit) (noteOutOfTurn n)
+hearRequest n (Open team edit) (Answer.Step answer) = noteOutOfTurn n
+hearRequest n (Open team edit) (Answer.Look answer) = noteOutOfTurn n
+hearRequest n (Open team edit) (Answer.Refused refusal) = n
+hearRequest n (Step team) (Answer.Standing targets) = noteOutOfTurn n
+hearRequest n (Step team) (Answer.Step answer) = hearStep n team (n .tickets team) answer
+hearRequest n (Step team) (Answer.Look answer) = noteOutOfTurn n
+hearRequest n (Step team) (Answer.Refused refusal) = n
+hearRequest n (Look word) (Answer.Standing targets) = noteOutOfTurn n
+hearRequest n (Look word) (Answer.Step answer) = noteOutOfTurn n
+hearRequest n (Look word) (Answer.Look answer) = hearLook n word answer
+hearRequest n (Look word) (Answer.Refused refusal) = n
+
+-- What was heard of a call; bytes that are no answer are out of turn.
+abbrev pub hearAnswer : Notes → Call → Option Answer → Notes
+hearAnswer n (framed frame out) none = noteOutOfTurn n
+hearAnswer n (framed frame out) (some answer) = hearRequest n (requestIn frame) answer
+
+unfoldable pub notesFrom : Notes → List Heard → Notes
+notesFrom n [] = n
+notesFrom n (one ∷ heard) = notesFrom (hearAnswer n (one .call) (answerHeard one)) heard
+
+abbrev pub notesOn : List Heard → Notes
+notesOn heard = notesFrom noNotes heard
+
+-- The order of what was heard. Its type has neither the book nor the tickets in it.
+abbrev pub order : List Heard → List Event
+order heard = notesOn heard .order
+
+-- The tickets whose last answer has come.
+abbrev pub ended : List Heard → List Ended
+ended heard = notesOn heard .ended
+
+-- "A ticket holds its k-th target by position from Claimed k until Put k, Returned k" (or its last answer, when it is gone).
+abbrev pub holdsTarget : Noted → ℕ → Bool
+holdsTarget ticket k = allHold (occurs k (ticket .claimed) ∷ not (occurs k (ticket .released)) ∷ [])
+
+-- It holds a word that is one of its targets, the first of which is the k-th.
+abbrev pub holdsAmong : Noted → ℕ → ℕ → List Target → Bool
+holdsAmong ticket word k [] = false
+holdsAmong ticket word k (target ∷ targets) =
+    someHolds (allHold (eqb word (target .word) ∷ holdsTarget ticket k ∷ []) ∷ holdsAmong ticket word (k + 1) targets ∷ [])
+
+abbrev pub holdsWord : Option Noted → ℕ → Bool
+holdsWord none word = false
+holdsWord (some ticket) word = holdsAmong ticket word 1 (storedTargets (ticket .edit))
+
+unfoldable pub holds : List Heard → ℕ → ℕ → Bool
+holds heard team word = holdsWord (notesOn heard .tickets team) word
+
+-- A team holds a word, by what was heard.
+abbrev pub HeldBy : List Heard → ℕ → ℕ → Type 0
+HeldBy heard team word = holds heard team word ≡ true

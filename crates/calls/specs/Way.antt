@@ -1,0 +1,142 @@
+-- The way of one frame, as the code goes it: where it is aimed, the slot it uses, what is made of the ticket there. It is shown equal to the call's definition.
+use Prim.Native.Nat.{ℕ, zero, suc, _+_, _-_, _≤_, _<_}
+use mathlib.Core.Path.{_≡_}
+use mathlib.Core.Bool.{Bool, true, false, cond}
+use lib.ListN.{length}
+use lib.Dec.{eqb, ltb}
+use Rattle.words.specs.Words.{Words, wordsInBook, teamCount}
+use Rattle.tickets.specs.declared.Ticket.{Ticket}
+use Rattle.tickets.specs.declared.Tickets.{Tickets}
+use Rattle.tickets.specs.declared.Stepped.{Stepped}
+use Rattle.tickets.specs.Tickets.{ticketOf, withTicket, hasTicket, wellMade}
+use Rattle.tickets.specs.Steps.{afterAnswer, AnswerFits, stepOf, lookOf}
+use Rattle.edits.specs.declared.Edit.{Edit}
+use Rattle.edits.specs.Opened.{targetCount, openedTicket}
+use Rattle.frames.specs.declared.Answer.{Answer}
+use Rattle.frames.specs.declared.Answer.the-variants as Answer
+use Rattle.frames.specs.declared.Header.{Header}
+use Rattle.frames.specs.declared.Header.the-variants as Header
+use Rattle.frames.specs.declared.EditRead.{EditRead}
+use Rattle.frames.specs.declared.EditRead.the-variants as EditRead
+use Rattle.frames.specs.Numbers.{Bytes, number16}
+use Rattle.frames.specs.Requests.{partAfterKind, addKind, stepKind, lookKind, lengthOfKind, teamIn, editOfKind}
+use Rattle.frames.specs.Answers.{longestAnswer}
+use Rattle.frames.specs.Fields.{headerOf, editRead, Whole}
+use Rattle.calls.specs.declared.Aim.{Aim}
+use Rattle.calls.specs.declared.Aim.the-variants as Aim
+use Rattle.calls.specs.declared.Outcome.{Outcome}
+use Rattle.calls.specs.declared.Outcome.the-variants as Outcome
+use Rattle.calls.specs.declared.Settled.{Settled}
+use Rattle.calls.specs.Call.{Done, done, doneOf}
+
+-- Where a frame goes: back, refused by 3 to 6; to a look; or to a team, with its kind.
+abbrev pub aimBy : Bytes → Header → Aim
+aimBy frame (Header.Refused number) = Aim.Refused number
+aimBy frame (Header.Kind kind) =
+    let team = teamIn (partAfterKind frame) in
+    cond (eqb kind lookKind) Aim.Look (cond (ltb team teamCount) (Aim.Team kind team) (Aim.Refused 6))
+
+unfoldable pub aimOf : Bytes → Aim
+aimOf frame = aimBy frame (headerOf frame)
+
+-- What is known of a frame that is not refused yet.
+abbrev pub AimKnown : Bytes → Aim → Type 0
+AimKnown frame (Aim.Refused number) = Unit {0}
+AimKnown frame Aim.Look = Whole frame lookKind
+AimKnown frame (Aim.Team kind team) = Whole frame kind × (kind < lookKind) × (team < teamCount)
+
+-- A team's number is below 16.
+abbrev pub SlotKnown : Aim → Type 0
+SlotKnown (Aim.Refused number) = Unit {0}
+SlotKnown Aim.Look = Unit {0}
+SlotKnown (Aim.Team kind team) = team < teamCount
+
+-- What is known where a team's frame is answered.
+pub record TeamFrame (words : Words) (part : Bytes) (kind team : ℕ) : Type 0 where
+  pub book : length words ≡ wordsInBook
+  pub first : addKind ≤ kind
+  pub last : kind ≤ stepKind
+  pub fields : length part ≡ lengthOfKind kind - 2
+  pub team-known : team < teamCount
+
+-- The slot that a frame uses: its team's, else the first, which it leaves as it is.
+abbrev pub slotOf : Aim → ℕ
+slotOf (Aim.Refused number) = 0
+slotOf Aim.Look = 0
+slotOf (Aim.Team kind team) = team
+
+abbrev pub settled : Ticket → Answer → Settled
+settled ticket answer = record { ticket = ticket; answer = answer }
+
+-- A look, or refusal 10.
+abbrev pub lookAnswer : Words → ℕ → Answer
+lookAnswer words word = cond (ltb word wordsInBook) (Answer.Look (lookOf words word)) (Answer.Refused 10)
+
+unfoldable pub lookSettled : Words → Ticket → ℕ → Settled
+lookSettled words ticket word = settled ticket (lookAnswer words word)
+
+-- An edit of a team without a ticket: the ticket that it opens, or refusal 10 or 11.
+unfoldable pub openSettled : Ticket → EditRead → Settled
+openSettled ticket (EditRead.Is edit) = settled (openedTicket edit) (Answer.Standing (targetCount edit))
+openSettled ticket (EditRead.Refused number) = settled ticket (Answer.Refused number)
+
+abbrev pub stepSettled : Stepped × Words → Settled × Words
+stepSettled result = (settled (result .0 .ticket) (Answer.Step (result .0 .answer)), result .1)
+
+-- What an outcome makes of the ticket in its slot, and its answer, by the part of the frame after its kind.
+abbrev pub outcomeSettled : Ticket → Bytes → Outcome → Settled
+outcomeSettled ticket part (Outcome.Left answer) = settled ticket answer
+outcomeSettled ticket part (Outcome.Stepped answer) = settled (afterAnswer ticket answer) (Answer.Step answer)
+outcomeSettled ticket part (Outcome.Edit kind) = openSettled ticket (editRead (editOfKind kind part))
+
+-- What is known of an outcome: a step's answer fits the counts of its ticket; an edit is of one of the four kinds, with its fields.
+abbrev pub OutcomeKnown : Ticket → Bytes → Outcome → Type 0
+OutcomeKnown ticket part (Outcome.Left answer) = Unit {0}
+OutcomeKnown ticket part (Outcome.Stepped answer) = AnswerFits ticket answer
+OutcomeKnown ticket part (Outcome.Edit kind) = (addKind ≤ kind) × (kind < stepKind) × (length part ≡ lengthOfKind kind - 2)
+
+-- A slot passes: a ticket that it has is well made (it is not `badlyMade`). A table passes, if all its slots do.
+abbrev pub SlotWellMade : Ticket → Type 0
+SlotWellMade ticket = hasTicket (ticket .phase) ≡ true → wellMade ticket ≡ true
+
+abbrev pub TableWellMade : Tickets → Type 0
+TableWellMade tickets = (team : ℕ) → team < teamCount → SlotWellMade (ticketOf tickets team)
+
+-- The same as tests: of one slot, and of so many slots from one on.
+abbrev pub slotWellMade : Ticket → Bool
+slotWellMade ticket = cond (hasTicket (ticket .phase)) (wellMade ticket) true
+
+unfoldable pub wellMadeFrom : ℕ → ℕ → Tickets → Bool
+wellMadeFrom k zero tickets = true
+wellMadeFrom k (suc more) tickets = cond (slotWellMade (ticketOf tickets k)) (wellMadeFrom (k + 1) more tickets) false
+
+-- A team's frame: refusals 7, 8 and 9 by its ticket and kind, else a step or an edit.
+unfoldable pub teamSettled : Words → Ticket → Bytes → ℕ → ℕ → Settled × Words
+teamSettled words ticket part kind team =
+    cond (hasTicket (ticket .phase))
+    (cond (wellMade ticket)
+    (cond (eqb kind stepKind) (stepSettled (stepOf words ticket team)) (settled ticket (Answer.Refused 8), words))
+    (settled ticket (Answer.Refused 7), words))
+    (cond (eqb kind stepKind) (settled ticket (Answer.Refused 9), words) (openSettled ticket (editRead (editOfKind kind part)), words))
+
+-- What an aimed frame makes of the ticket in its slot and of the words, and its answer.
+unfoldable pub settledBy : Words → Ticket → Bytes → Aim → Settled × Words
+settledBy words ticket frame (Aim.Refused number) = (settled ticket (Answer.Refused number), words)
+settledBy words ticket frame Aim.Look = (lookSettled words ticket (number16 (partAfterKind frame) 0), words)
+settledBy words ticket frame (Aim.Team kind team) = teamSettled words ticket (partAfterKind frame) kind team
+
+abbrev pub wayDone : Tickets → ℕ → Settled × Words → Done
+wayDone tickets slot result = done (result .0 .answer) (withTicket tickets slot (result .0 .ticket)) (result .1)
+
+-- The whole way.
+unfoldable pub wayOf : Words → Tickets → Bytes → Done
+wayOf words tickets frame =
+    let slot = slotOf (aimOf frame) in
+    wayDone tickets slot (settledBy words (ticketOf tickets slot) frame (aimOf frame))
+
+-- Statement: where neither refusal 1 nor 2 applies, the way is what the call does.
+abbrev pub WayIsCall : Type 0
+WayIsCall =
+    (words : Words) (tickets : Tickets) (frame out : Bytes)
+    → length words ≡ wordsInBook → longestAnswer ≤ length out
+    → doneOf words tickets frame out ≡ wayOf words tickets frame

@@ -1,0 +1,55 @@
+// What a call and a stream give, as types. What they are is said in specs/, with the theorems about every list of
+// calls; the code stands in the crate book.
+use frames::Answer;
+use tickets::StepAnswer;
+use tickets::Ticket;
+use tickets::Tickets;
+
+// What the call returns: the bytes written (1 or 2 for those refusals), and the tickets.
+pub struct Reply {
+    pub written: usize,
+    pub tickets: Tickets,
+}
+
+// Where a frame goes: back, refused; to a look; or to a team, with its kind.
+pub enum Aim {
+    Refused(u16),
+    Look,
+    Team(u16, u16),
+}
+
+// What a frame makes of the ticket in its slot, and its answer.
+pub struct Settled {
+    pub ticket: Ticket,
+    pub answer: Answer,
+}
+
+// What a frame comes to: an answer that leaves the ticket in its slot, a step's answer, which says what becomes of the
+// ticket, or an edit to read, of this kind. It is small, so that the ticket is copied nowhere on the way.
+pub enum Outcome {
+    Left(Answer),
+    Stepped(StepAnswer),
+    Edit(u16),
+}
+
+// Why a stream stopped: the rest is no whole frame yet; there is no room for an answer; a length field is too
+// large; the book has another length.
+pub enum Stop {
+    MoreInput,
+    OutputFull,
+    BadLength,
+    NoBook,
+}
+
+pub struct Streamed {
+    pub tickets: Tickets,
+    pub consumed: usize,
+    pub written: usize,
+    pub stop: Stop,
+}
+
+// The bytes of the next frame, or why there is none.
+pub enum Next {
+    Frame(usize),
+    End(Stop),
+}

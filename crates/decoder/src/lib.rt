@@ -1,0 +1,213 @@
+// Each edit's fields, read from the part of the frame after its kind. A field out of range ends the reading there.
+ghost use mathlib.Core.Path.{_≡_};
+ghost use mathlib.Core.List.{[], _∷_};
+ghost use Prim.Native.Nat.{_-_, _≤_};
+ghost use lib.ListN.{length};
+ghost use Rattle.edits.specs.declared.Edit.the-variants as Edit;
+ghost use Rattle.edits.specs.Ranges.{sameLeg, namedTwice};
+ghost use Rattle.frames.specs.Requests.{addKind, correctKind, strikeKind, moveKind, lengthOfKind, addIn, correctIn, strikeIn, moveIn, editOfKind};
+ghost use Rattle.frames.specs.Fields.{editRead};
+use crate::fields::field_from_one;
+use crate::fields::field_up_to;
+use crate::fields::measure_field;
+use crate::fields::passage_field;
+use crate::fields::stations_at;
+use crate::fields::taken_field;
+use edits::Add;
+use edits::Correct;
+use edits::Edit;
+use edits::Move;
+use edits::Strike;
+use frames::EditRead;
+use frames::Field;
+use frames::Kind;
+use frames::MeasureField;
+use frames::Refusal;
+use frames::TakenField;
+use words::Limits;
+
+pub mod fields; // one field, in range or out of it
+
+// Leg number 0 means none, and names none.
+fn same_leg(leg: u16, other: u16) -> bool
+    ensures { λ r. ⌜ r ≡ sameLeg leg other ⌝ }
+{
+    if leg == 0 {
+        return false;
+    }
+    leg == other
+}
+
+// A leg other than 0 is named twice among f, r, s and h; 0 stands for one that the edit hasn't.
+fn named_twice(newer: u16, leg: u16, older: u16, newest: u16) -> bool
+    ensures { λ r. ⌜ r ≡ namedTwice (newer ∷ leg ∷ older ∷ newest ∷ []) ⌝ }
+{
+    if same_leg(newer, leg) {
+        return true;
+    }
+    if same_leg(newer, older) {
+        return true;
+    }
+    if same_leg(newer, newest) {
+        return true;
+    }
+    if same_leg(leg, older) {
+        return true;
+    }
+    if same_leg(leg, newest) {
+        return true;
+    }
+    same_leg(older, newest)
+}
+
+// team p r h c from to M.
+fn read_add(part: &[u8]) -> EditRead
+    requires { ⌜ length (now part) ≡ lengthOfKind addKind - 2 ⌝ }
+    ensures { λ r. ⌜ r ≡ editRead (Edit.Add (addIn (now (part .entry)))) ⌝ }
+{
+    let Field::InRange(passage) = passage_field(part, 2) else {
+        return EditRead::Refused(Refusal::RANGE);
+    };
+    let Field::InRange(leg) = field_from_one(part, 4, Limits::LAST_LEG) else {
+        return EditRead::Refused(Refusal::RANGE);
+    };
+    let Field::InRange(newest) = field_up_to(part, 6, Limits::LAST_LEG) else {
+        return EditRead::Refused(Refusal::RANGE);
+    };
+    let Field::InRange(count) = field_up_to(part, 8, Limits::LAST_LEG - 1) else {
+        return EditRead::Refused(Refusal::RANGE);
+    };
+    let stations = stations_at(part, 10);
+    let MeasureField::InRange(measure) = measure_field(part, 14) else {
+        return EditRead::Refused(Refusal::RANGE);
+    };
+    if stations.from == stations.to {
+        return EditRead::Refused(Refusal::REPEATED);
+    }
+    if named_twice(0, leg, 0, newest) {
+        return EditRead::Refused(Refusal::REPEATED);
+    }
+    EditRead::Is(Edit::Add(Add {
+        passage: passage,
+        leg: leg,
+        newest: newest,
+        count: count,
+        stations: stations,
+        measure: measure,
+    }))
+}
+
+// team p r from to, old M, new M.
+fn read_correct(part: &[u8]) -> EditRead
+    requires { ⌜ length (now part) ≡ lengthOfKind correctKind - 2 ⌝ }
+    ensures { λ r. ⌜ r ≡ editRead (Edit.Correct (correctIn (now (part .entry)))) ⌝ }
+{
+    let Field::InRange(passage) = passage_field(part, 2) else {
+        return EditRead::Refused(Refusal::RANGE);
+    };
+    let Field::InRange(leg) = field_from_one(part, 4, Limits::LAST_LEG) else {
+        return EditRead::Refused(Refusal::RANGE);
+    };
+    let stations = stations_at(part, 6);
+    let MeasureField::InRange(old) = measure_field(part, 10) else {
+        return EditRead::Refused(Refusal::RANGE);
+    };
+    let MeasureField::InRange(new) = measure_field(part, 18) else {
+        return EditRead::Refused(Refusal::RANGE);
+    };
+    if stations.from == stations.to {
+        return EditRead::Refused(Refusal::REPEATED);
+    }
+    EditRead::Is(Edit::Correct(Correct {
+        passage: passage,
+        leg: leg,
+        stations: stations,
+        old: old,
+        new: new,
+    }))
+}
+
+// team p f r s c from to M.
+fn read_strike(part: &[u8]) -> EditRead
+    requires { ⌜ length (now part) ≡ lengthOfKind strikeKind - 2 ⌝ }
+    ensures { λ r. ⌜ r ≡ editRead (Edit.Strike (strikeIn (now (part .entry)))) ⌝ }
+{
+    let Field::InRange(passage) = passage_field(part, 2) else {
+        return EditRead::Refused(Refusal::RANGE);
+    };
+    let TakenField::InRange(taken) = taken_field(part, 4) else {
+        return EditRead::Refused(Refusal::RANGE);
+    };
+    let stations = stations_at(part, 12);
+    let MeasureField::InRange(measure) = measure_field(part, 16) else {
+        return EditRead::Refused(Refusal::RANGE);
+    };
+    if stations.from == stations.to {
+        return EditRead::Refused(Refusal::REPEATED);
+    }
+    if named_twice(taken.newer, taken.leg, taken.older, 0) {
+        return EditRead::Refused(Refusal::REPEATED);
+    }
+    EditRead::Is(Edit::Strike(Strike {
+        passage: passage,
+        newer: taken.newer,
+        leg: taken.leg,
+        older: taken.older,
+        count: taken.count,
+        stations: stations,
+        measure: measure,
+    }))
+}
+
+// team p q f r s c h d from to.
+fn read_move(part: &[u8]) -> EditRead
+    requires { ⌜ length (now part) ≡ lengthOfKind moveKind - 2 ⌝ }
+    ensures { λ r. ⌜ r ≡ editRead (Edit.Move (moveIn (now (part .entry)))) ⌝ }
+{
+    let Field::InRange(passage) = passage_field(part, 2) else {
+        return EditRead::Refused(Refusal::RANGE);
+    };
+    let Field::InRange(into) = passage_field(part, 4) else {
+        return EditRead::Refused(Refusal::RANGE);
+    };
+    let TakenField::InRange(taken) = taken_field(part, 6) else {
+        return EditRead::Refused(Refusal::RANGE);
+    };
+    let Field::InRange(newest) = field_up_to(part, 14, Limits::LAST_LEG) else {
+        return EditRead::Refused(Refusal::RANGE);
+    };
+    let Field::InRange(count) = field_up_to(part, 16, Limits::LAST_LEG - 1) else {
+        return EditRead::Refused(Refusal::RANGE);
+    };
+    let stations = stations_at(part, 18);
+    if stations.from == stations.to || into == passage {
+        return EditRead::Refused(Refusal::REPEATED);
+    }
+    if named_twice(taken.newer, taken.leg, taken.older, newest) {
+        return EditRead::Refused(Refusal::REPEATED);
+    }
+    EditRead::Is(Edit::Move(Move {
+        passage: passage,
+        into: into,
+        newer: taken.newer,
+        leg: taken.leg,
+        older: taken.older,
+        count: taken.count,
+        into_newest: newest,
+        into_count: count,
+        stations: stations,
+    }))
+}
+
+// The edit of a frame whose kind is an edit's.
+pub fn read_edit(kind: u16, part: &[u8]) -> EditRead
+    requires { ⌜ (addKind ≤ kind) × (kind ≤ moveKind) × (length (now part) ≡ lengthOfKind kind - 2) ⌝ }
+    ensures { λ r. ⌜ r ≡ editRead (editOfKind kind (now (part .entry))) ⌝ }
+{
+    match kind {
+        Kind::ADD => read_add(part),
+        Kind::CORRECT => read_correct(part),
+        Kind::STRIKE => read_strike(part),
+        _ => read_move(part),
+    }
+}

@@ -1,0 +1,141 @@
+// An answer's frame, written at the front of the output.
+ghost use mathlib.Core.Path.{_≡_};
+ghost use mathlib.Core.List.{[], _++_};
+ghost use Prim.Native.Nat.{_+_, _≤_};
+ghost use lib.ListN.{length};
+ghost use lib.Seq.{sets};
+ghost use Rattle.frames.specs.declared.Answer.the-variants as Answer;
+ghost use Rattle.frames.specs.Numbers.{bytes16, bytes32, bytes64};
+ghost use Rattle.frames.specs.Requests.{headBytes};
+ghost use Rattle.frames.specs.Answers.{frameOf, answerFrame, longestAnswer, written};
+use frames::Answer;
+use frames::Frame;
+use frames::numbers::put16;
+use frames::numbers::put32;
+use frames::numbers::put64;
+use tickets::LookAnswer;
+use tickets::StepAnswer;
+
+// The kinds of the answers.
+struct AnswerKind {}
+
+impl AnswerKind {
+    const STANDING: u16 = 128;
+
+    const CLAIMED: u16 = 129;
+
+    const WAITING: u16 = 130;
+
+    const FOUND: u16 = 131;
+
+    const PUT: u16 = 132;
+
+    const RETURNED: u16 = 133;
+
+    const GRANTED: u16 = 134;
+
+    const STALE: u16 = 135;
+
+    const VALUE: u16 = 136;
+
+    const HELD: u16 = 137;
+
+    const REFUSED: u16 = 138;
+}
+
+// The length and the kind of a frame whose fields take so many bytes. Returns the frame's bytes.
+fn put_head(out: &mut [u8], kind: u16, fields: usize) -> usize
+    requires { ⌜ (longestAnswer ≤ length (now out)) × (headBytes + fields ≤ longestAnswer) ⌝ }
+    ensures { λ r. ⌜ (r ≡ headBytes + fields) × (now (out .exit) ≡ sets (now (out .entry)) 0 (bytes16 (2 + fields) ++ bytes16 kind)) ⌝ }
+{
+    put16(out, 0, (Frame::FIELD + fields) as u16);
+    put16(out, Frame::FIELD, kind);
+    Frame::HEAD + fields
+}
+
+// A frame with one field of 16 bits,
+fn write_short(out: &mut [u8], kind: u16, x: u16) -> usize
+    requires { ⌜ longestAnswer ≤ length (now out) ⌝ }
+    ensures { λ r. ⌜ (r, now (out .exit)) ≡ written (now (out .entry)) (frameOf kind (bytes16 x)) ⌝ }
+{
+    let count = put_head(out, kind, 2);
+    put16(out, Frame::HEAD, x);
+    count
+}
+
+// one of 32 bits,
+fn write_long(out: &mut [u8], kind: u16, x: u32) -> usize
+    requires { ⌜ longestAnswer ≤ length (now out) ⌝ }
+    ensures { λ r. ⌜ (r, now (out .exit)) ≡ written (now (out .entry)) (frameOf kind (bytes32 x)) ⌝ }
+{
+    let count = put_head(out, kind, 4);
+    put32(out, Frame::HEAD, x);
+    count
+}
+
+// one of each,
+fn write_short_and_long(out: &mut [u8], kind: u16, x: u16, y: u32) -> usize
+    requires { ⌜ longestAnswer ≤ length (now out) ⌝ }
+    ensures { λ r. ⌜ (r, now (out .exit)) ≡ written (now (out .entry)) (frameOf kind (bytes16 x ++ bytes32 y)) ⌝ }
+{
+    let count = put_head(out, kind, 6);
+    put16(out, Frame::HEAD, x);
+    put32(out, Frame::HEAD + Frame::FIELD, y);
+    count
+}
+
+// one of 64 bits,
+fn write_longest(out: &mut [u8], kind: u16, x: u64) -> usize
+    requires { ⌜ longestAnswer ≤ length (now out) ⌝ }
+    ensures { λ r. ⌜ (r, now (out .exit)) ≡ written (now (out .entry)) (frameOf kind (bytes64 x)) ⌝ }
+{
+    let count = put_head(out, kind, 8);
+    put64(out, Frame::HEAD, x);
+    count
+}
+
+// and none.
+fn write_bare(out: &mut [u8], kind: u16) -> usize
+    requires { ⌜ longestAnswer ≤ length (now out) ⌝ }
+    ensures { λ r. ⌜ (r, now (out .exit)) ≡ written (now (out .entry)) (frameOf kind []) ⌝ }
+{
+    put_head(out, kind, 0)
+}
+
+fn write_step(out: &mut [u8], answer: StepAnswer) -> usize
+    requires { ⌜ longestAnswer ≤ length (now out) ⌝ }
+    ensures { λ r. ⌜ (r, now (out .exit)) ≡ written (now (out .entry)) (answerFrame (Answer.Step answer)) ⌝ }
+{
+    match answer {
+        StepAnswer::Claimed(many) => write_short(out, AnswerKind::CLAIMED, many),
+        StepAnswer::Waiting(word) => write_short(out, AnswerKind::WAITING, word),
+        StepAnswer::Found(word) => write_short(out, AnswerKind::FOUND, word),
+        StepAnswer::Put(many) => write_short(out, AnswerKind::PUT, many),
+        StepAnswer::Returned(many) => write_short(out, AnswerKind::RETURNED, many),
+        StepAnswer::Granted(tries) => write_long(out, AnswerKind::GRANTED, tries),
+        StepAnswer::Stale(word, tries) => write_short_and_long(out, AnswerKind::STALE, word, tries),
+    }
+}
+
+fn write_look(out: &mut [u8], answer: LookAnswer) -> usize
+    requires { ⌜ longestAnswer ≤ length (now out) ⌝ }
+    ensures { λ r. ⌜ (r, now (out .exit)) ≡ written (now (out .entry)) (answerFrame (Answer.Look answer)) ⌝ }
+{
+    match answer {
+        LookAnswer::Held => write_bare(out, AnswerKind::HELD),
+        LookAnswer::Value(value) => write_longest(out, AnswerKind::VALUE, value),
+    }
+}
+
+// The bytes written; later bytes of the output keep their contents.
+pub fn write_answer(out: &mut [u8], answer: Answer) -> usize
+    requires { ⌜ longestAnswer ≤ length (now out) ⌝ }
+    ensures { λ r. ⌜ ((r, now (out .exit)) ≡ written (now (out .entry)) (answerFrame answer)) × (r ≤ longestAnswer) ⌝ }
+{
+    match answer {
+        Answer::Standing(n) => write_short(out, AnswerKind::STANDING, n),
+        Answer::Step(step) => write_step(out, step),
+        Answer::Look(look) => write_look(out, look),
+        Answer::Refused(number) => write_short(out, AnswerKind::REFUSED, number),
+    }
+}
