@@ -22,7 +22,7 @@ impl Leg {
     }
 
     /// "all in range, from other than to"
-    fn sound(&self) -> bool {
+    pub fn sound(&self) -> bool {
         let stations = 0..65_536;
         (1..=LEGS).contains(&self.number)
             && stations.contains(&self.from)

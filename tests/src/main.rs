@@ -1,6 +1,7 @@
 //! The test side of Mussletread: a second model of document 01 and what is
 //! compared with it. See README.md.
 
+mod books;
 #[cfg(test)]
 mod checks;
 mod compare;
@@ -25,6 +26,7 @@ const USAGE: &str = "usage:
   tests whole-case PROGRAM
   tests stored DIR [--check]
   tests lent FILE [--check]
+  tests books DIR [--check]
   tests serve [--wrong FAULT]";
 
 fn main() -> ExitCode {
@@ -52,6 +54,8 @@ fn run(words: &[&str]) -> Result<String, String> {
         ["stored", dir, "--check"] => check_stored(Path::new(dir)),
         ["lent", file] => lent::told(&read_text(file)?),
         ["lent", file, "--check"] => lent::check(&read_text(file)?),
+        ["books", dir] => store_books(Path::new(dir)),
+        ["books", dir, "--check"] => check_books(Path::new(dir)),
         ["serve"] => serve_as(None),
         ["serve", "--wrong", name] => serve_as(Some(wrong::named(name).ok_or(USAGE)?)),
         _ => Err(USAGE.to_string()),
@@ -118,6 +122,28 @@ fn check_stored(dir: &Path) -> Result<String, String> {
     tally.add(&input, &output);
     tally.complete(true)?;
     Ok(format!("stored: {}", tally.summary()))
+}
+
+/// Writes books to be checked, and what the model says of each.
+fn store_books(dir: &Path) -> Result<String, String> {
+    let input = books::stored();
+    let failed = |error: std::io::Error| error.to_string();
+    fs::create_dir_all(dir).map_err(failed)?;
+    fs::write(dir.join("stdout"), books::answered(&input)?).map_err(failed)?;
+    fs::write(dir.join("stdin"), &input).map_err(failed)?;
+    check_books(dir)
+}
+
+/// The stored answers are the model's, and each that there is comes.
+fn check_books(dir: &Path) -> Result<String, String> {
+    let input = fs::read(dir.join("stdin")).map_err(|error| format!("stdin: {error}"))?;
+    let output = read_text(&dir.join("stdout").to_string_lossy())?;
+    let expected = books::answered(&input)?;
+    if expected != output {
+        let line = expected.lines().zip(output.lines()).position(|(a, b)| a != b);
+        return Err(format!("the stored answers to books differ from the model's, case {line:?}"));
+    }
+    books::summary(&output)
 }
 
 fn read_text(file: &str) -> Result<String, String> {

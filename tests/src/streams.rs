@@ -323,6 +323,20 @@ impl Author {
         }
     }
 
+    /// Rounds of steps until no ticket stands.
+    pub fn finish_all(&mut self) {
+        while let Some(busy) = (0..TEAMS).find(|team| self.watch.is_busy(*team)) {
+            for team in (busy..TEAMS).filter(|team| self.watch.is_busy(*team)).collect::<Vec<_>>() {
+                self.say(&Request::step(team).bytes());
+            }
+        }
+    }
+
+    /// The book that the stream has left so far.
+    pub fn book(&self) -> &[Word] {
+        &self.desk.book
+    }
+
     pub fn sweep(&mut self) {
         self.bytes.extend(sweep());
         self.frames += WORDS;

@@ -1,0 +1,34 @@
+-- "A check answers yes exactly when the words are those of some plain book."
+use Prim.Native.Nat.{ℕ, _≤_, _<_}
+use mathlib.Core.Path.{_≡_}
+use mathlib.Core.List.{List}
+use mathlib.Core.Logic.{_↔_}
+use lib.ListN.{length}
+use Rattle.words.specs.Words.{Words, wordsInBook, lastLeg, readOf}
+use Rattle.plain.specs.Plain.{Plain, wordOf, Sound}
+use Rattle.calls.specs.Run.{Call, OfBytes}
+use Rattle.calls.specs.Order.{HeldBy}
+use Rattle.calls.specs.Linearizable.{Every, heardOn, bookAfter}
+use Rattle.soundness.specs.declared.Checked.the-variants.{Yes}
+use Rattle.soundness.specs.Answering.{checkOf}
+
+-- The words are those of some plain book that keeps its rules.
+abbrev pub OfSomePlainBook : Words → Type 0
+OfSomePlainBook words = (plain : Plain) × Sound plain × ((word : ℕ) → word < wordsInBook → readOf words word ≡ wordOf plain word)
+
+-- Statement: the answer is yes exactly when the book is whole, the scratch has room, and the words are those of some plain book.
+abbrev pub YesExactlyToPlainBooks : Type 0
+YesExactlyToPlainBooks =
+    (words : Words) (room : ℕ)
+    → (checkOf words room ≡ Yes) ↔ ((length words ≡ wordsInBook) × (lastLeg ≤ room) × OfSomePlainBook words)
+
+-- No team holds any word after a list of calls.
+abbrev pub NothingHeld : List Call → Type 0
+NothingHeld calls = (team word : ℕ) → ¬ HeldBy (heardOn calls) team word
+
+-- Statement: after every list of calls from a fresh book, where no team holds any word, the answer is yes.
+abbrev pub UnheldBooksAreSound : Type 0
+UnheldBooksAreSound =
+    (calls : List Call) → Every OfBytes calls → NothingHeld calls
+    → (room : ℕ) → lastLeg ≤ room
+    → checkOf (bookAfter calls) room ≡ Yes

@@ -1,0 +1,257 @@
+//! "Is this book sound?": books lent to the check, as the program `crates/books`
+//! reads them, and what the model says of each.
+//!
+//! A case is bytes of scratch, words of the book, a number of words given (16 bits
+//! each), then so many times a word (16 bits) and its value (64); words not given
+//! are 0. Each gets a line: `yes`, `no`, `refused 1` or `refused 12`.
+
+use crate::demand3::{Leg, Plain};
+use crate::layout::*;
+use crate::streams::{Author, Prng};
+use std::collections::{BTreeMap, BTreeSet};
+
+/// "a lent scratch of 1,344 bytes"
+const SCRATCH: i64 = LEGS;
+
+/// The plain book that words tell by their links, if they tell one at all.
+fn told(book: &[Word]) -> Option<Plain> {
+    let value = |word: i64| match book[word as usize] {
+        Word::Value(value) => Some(value),
+        Word::Marked(_) => None,
+    };
+    let mut plain = Plain::fresh();
+    for p in 0..PASSAGES {
+        let mut number = value(newest_word(p))?;
+        while number != 0 {
+            if !(1..=LEGS).contains(&number) || plain.count(p) > LEGS {
+                return None;
+            }
+            let (place, measure) = (value(place_word(number))?, value(measure_word(number))?);
+            let Reading { from, to, measure, .. } = reading(place as u64, measure as u64)?;
+            plain.lists[p as usize].push(Leg { number, from, to, measure });
+            number = value(link_word(number))?;
+        }
+    }
+    Some(plain)
+}
+
+/// "yes exactly when the words are those of some plain book": the one that they
+/// tell has no number twice, and its words are these.
+pub fn sound(book: &[Word]) -> bool {
+    let Some(plain) = told(book) else { return false };
+    let legs: Vec<&Leg> = plain.lists.iter().flatten().collect();
+    let numbers: BTreeSet<i64> = legs.iter().map(|leg| leg.number).collect();
+    numbers.len() == legs.len()
+        && legs.iter().all(|leg| leg.sound())
+        && (0..WORDS).all(|word| book[word as usize] == Word::Value(plain.word(word)))
+}
+
+/// "Checks: 12, scratch too short, after 1."
+fn answer(book: &[Word], scratch: i64) -> &'static str {
+    match (book.len() as i64, scratch) {
+        (length, _) if length != WORDS => "refused 1",
+        (_, bytes) if bytes < SCRATCH => "refused 12",
+        _ if sound(book) => "yes",
+        _ => "no",
+    }
+}
+
+type Words = BTreeMap<i64, u64>;
+
+struct Case {
+    scratch: i64,
+    length: i64,
+    words: Words,
+}
+
+impl Case {
+    fn of(words: Words) -> Case {
+        Case { scratch: SCRATCH, length: WORDS, words }
+    }
+
+    fn bytes(&self) -> Vec<u8> {
+        let mut bytes = Vec::new();
+        for number in [self.scratch, self.length, self.words.len() as i64] {
+            bytes.extend((number as u16).to_le_bytes());
+        }
+        for (word, value) in &self.words {
+            bytes.extend((*word as u16).to_le_bytes());
+            bytes.extend(value.to_le_bytes());
+        }
+        bytes
+    }
+}
+
+/// The model's line for each case of an input.
+pub fn answered(input: &[u8]) -> Result<String, String> {
+    let (mut rest, mut lines) = (input, String::new());
+    let mut take = |count: usize| -> Result<u64, String> {
+        let (number, after) = rest.split_at_checked(count).ok_or("a torn case")?;
+        rest = after;
+        Ok(number.iter().rev().fold(0, |high, byte| high << 8 | u64::from(*byte)))
+    };
+    while let Ok(scratch) = take(2) {
+        let (length, given) = (take(2)?, take(2)?);
+        let mut book = vec![Word::Value(0); length as usize];
+        for _ in 0..given {
+            let (word, value) = (take(2)? as usize, take(8)?);
+            if let Some(place) = book.get_mut(word) {
+                *place = Word::of_bits(value);
+            }
+        }
+        lines += answer(&book, scratch as i64);
+        lines += "\n";
+    }
+    Ok(lines)
+}
+
+fn words_of(book: &[Word]) -> Words {
+    let used = book.iter().enumerate().filter(|(_, word)| **word != Word::Value(0));
+    used.map(|(word, value)| (word as i64, value.bits())).collect()
+}
+
+/// Legs of one passage, newest first.
+fn chain(p: i64, numbers: &[i64]) -> Words {
+    let mut words = Words::from([
+        (newest_word(p), numbers.first().copied().unwrap_or(0) as u64),
+        (count_word(p), numbers.len() as u64),
+    ]);
+    for (index, number) in numbers.iter().enumerate() {
+        let older = numbers.get(index + 1).copied().unwrap_or(0);
+        let measure = Measure { distance: 1 + number, compass: 9, clino: 150 - number % 300 };
+        words.insert(link_word(*number), older as u64);
+        words.insert(place_word(*number), place(p, *number, number + 1) as u64);
+        words.insert(measure_word(*number), measure.written() as u64);
+    }
+    words
+}
+
+fn with(words: &Words, changes: &[(i64, u64)]) -> Case {
+    let mut changed = words.clone();
+    changed.extend(changes.iter().copied());
+    Case::of(changed)
+}
+
+/// One fault for each sentence of the request.
+fn faults() -> Vec<Case> {
+    let three = chain(4, &[7, 1, 1_344]);
+    let mut two = three.clone();
+    two.extend(chain(9, &[20, 21]));
+    let mut cases: Vec<Case> = [Words::new(), three.clone(), two.clone()].map(Case::of).into();
+    for (scratch, length) in
+        [(0, 0), (2_000, 4_095), (2_000, 4_097), (1_343, WORDS), (0, WORDS), (2_000, WORDS)]
+    {
+        cases.push(Case { scratch, length, words: Words::new() });
+    }
+    let mark = 1 << 63;
+    cases.extend([
+        with(&two, &[(count_word(4), 2)]),
+        with(&two, &[(count_word(4), 4)]),
+        with(&two, &[(count_word(4), 1_345)]),
+        with(&two, &[(count_word(31), u64::MAX)]),
+        with(&two, &[(count_word(5), 1)]),
+        with(&two, &[(newest_word(5), 30)]),
+        with(&two, &[(newest_word(4), 0)]),
+        with(&two, &[(newest_word(4), 1_345)]),
+        with(&two, &[(newest_word(4), 65_536 + 7)]),
+        // A circle, a chain into another passage, one that two passages share.
+        with(&two, &[(link_word(1_344), 7)]),
+        with(&two, &[(link_word(1_344), 7), (count_word(4), 1_344)]),
+        with(&two, &[(link_word(1_344), 20), (count_word(4), 5)]),
+        with(&two, &[(newest_word(9), 7), (count_word(9), 3)]),
+        with(&three, &[(newest_word(5), 7), (count_word(5), 3)]),
+        with(&two, &[(link_word(1), mark)]),
+        with(&two, &[(link_word(1), mark + 3)]),
+        with(&two, &[(place_word(1), mark + 15)]),
+        with(&two, &[(measure_word(1), mark + 16)]),
+        with(&two, &[(newest_word(0), mark)]),
+        // Unused legs that are not zero.
+        with(&two, &[(link_word(2), 1)]),
+        with(&two, &[(place_word(1_343), 1)]),
+        with(&two, &[(measure_word(1_343), 1 << 62)]),
+        // A place of another passage, from equal to to, a measure out of range.
+        with(&two, &[(place_word(7), place(9, 7, 8) as u64)]),
+        with(&two, &[(place_word(7), place(4, 8, 8) as u64)]),
+        with(&two, &[(place_word(7), 0), (measure_word(7), 0)]),
+        with(&two, &[(measure_word(7), 0)]),
+        with(&two, &[(measure_word(7), 36_000 << 17 | 5)]),
+        // Still sound: other figures in range.
+        with(&two, &[(measure_word(7), 1)]),
+        with(&two, &[(place_word(7), place(4, 65_535, 0) as u64)]),
+    ]);
+    let all: Vec<i64> = (1..=LEGS).rev().collect();
+    cases.push(Case::of(chain(0, &all)));
+    cases.push(with(&chain(0, &all), &[(link_word(1), LEGS as u64)]));
+    cases
+}
+
+/// A word of a book changed as a bad disk might change it.
+fn damaged(rng: &mut Prng, words: &Words) -> Case {
+    let mut damaged = words.clone();
+    let places: Vec<i64> =
+        words.keys().copied().chain([newest_word(rng.below(PASSAGES))]).collect();
+    let (word, other) = (rng.pick(&places), rng.pick(&places));
+    let value = words.get(&word).copied().unwrap_or(0);
+    let changed = match rng.below(5) {
+        0 => value ^ (1 << rng.below(64)),
+        1 => value.wrapping_add(1),
+        2 => 0,
+        3 => (1 << 63) + rng.below(17) as u64,
+        _ => words.get(&other).copied().unwrap_or(0),
+    };
+    damaged.insert(word, changed);
+    Case::of(damaged)
+}
+
+/// The cases stored: each fault, and books that streams leave, whole and damaged.
+pub fn stored() -> Vec<u8> {
+    let mut cases = faults();
+    for seed in 1..=8 {
+        let mut author = Author::new(seed);
+        for _ in 0..3 {
+            author.contend(100 * seed as i64);
+            cases.push(Case::of(words_of(author.book())));
+            author.finish_all();
+            let words = words_of(author.book());
+            let mut rng = Prng::new(seed + author.frames as u64);
+            cases.extend((0..6).map(|_| damaged(&mut rng, &words)));
+            cases.push(Case::of(words));
+        }
+    }
+    cases.iter().flat_map(Case::bytes).collect()
+}
+
+/// How often each answer came; each must have.
+pub fn summary(lines: &str) -> Result<String, String> {
+    let counts = ["yes", "no", "refused 1", "refused 12"]
+        .map(|kind| (kind, lines.lines().filter(|line| *line == kind).count()));
+    if let Some((kind, _)) = counts.iter().find(|(_, count)| *count < 2) {
+        return Err(format!("the stored books hardly reach: {kind}"));
+    }
+    Ok(format!("books: {}", counts.map(|(kind, count)| format!("{kind} {count}")).join(", ")))
+}
+
+#[cfg(test)]
+mod tests {
+    use super::*;
+
+    #[test]
+    fn books_left_by_finished_tickets_are_sound() {
+        for seed in 1..=20 {
+            let mut author = Author::new(seed);
+            author.contend(400);
+            author.finish_all();
+            assert!(sound(author.book()), "seed {seed}");
+        }
+    }
+
+    #[test]
+    fn a_word_held_is_not_sound() {
+        let mut author = Author::new(3);
+        author.contend(200);
+        author.finish_all();
+        let mut book = author.book().to_vec();
+        book[77] = Word::Marked(2);
+        assert!(!sound(&book));
+    }
+}
