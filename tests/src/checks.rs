@@ -1,7 +1,7 @@
 //! Unit tests of the model, of demand 3's check and of the streams.
 
 use crate::demand3::{check, sweep, Plain};
-use crate::frames::{split, Answer, Field::*, Kind, Request};
+use crate::frames::{framed, split, Answer, Field::*, Kind, Request};
 use crate::layout::*;
 use crate::lent;
 use crate::model::{survey, Desk};
@@ -111,6 +111,132 @@ fn ten_goes_before_eleven_and_the_team_before_both() {
     assert_eq!(asked(&mut desk, Request::look(4_096)), Answer::Refused(10));
 }
 
+/// Says a request, then steps of its team till its ticket is gone; the last answer.
+fn settled(desk: &mut Desk, opener: Request) -> Answer {
+    let mut answer = asked(desk, opener);
+    while desk.tickets.contains_key(&opener.team()) {
+        answer = asked(desk, Request::step(opener.team()));
+    }
+    answer
+}
+
+#[test]
+fn views_that_are_refused() {
+    let refused = |view: Request| asked(&mut Desk::fresh(), view);
+    let view = Request::view(0, &[7, 8]);
+    assert_eq!(refused(view), Answer::Standing(2));
+    let with = |values: &[(crate::frames::Field, i64)]| {
+        let mut changed = view;
+        set(&mut changed, values);
+        refused(changed)
+    };
+    for n in [0, 1, 3, 7, 258, 65_535] {
+        assert_eq!(with(&[(N, n)]), Answer::Refused(10), "n {n}");
+    }
+    assert_eq!(with(&[(Word2, 4_095)]), Answer::Standing(2));
+    assert_eq!(with(&[(Word2, 4_096)]), Answer::Refused(10));
+    assert_eq!(with(&[(Word2, 7)]), Answer::Refused(11));
+    assert_eq!(with(&[(Word2, 7), (N, 3)]), Answer::Refused(10), "10 goes first");
+    assert_eq!(with(&[(Word1, 65_535), (Word2, 65_535)]), Answer::Refused(10));
+    assert_eq!(with(&[(Team, 16), (N, 0)]), Answer::Refused(6));
+    let mut desk = Desk::fresh();
+    asked(&mut desk, first_add(0));
+    assert_eq!(asked(&mut desk, Request::view(0, &[9, 9])), Answer::Refused(8));
+    asked(&mut desk, Request::view(1, &[9]));
+    assert_eq!(asked(&mut desk, first_add(1)), Answer::Refused(8), "a view is a ticket too");
+}
+
+/// "Its length is even, 8 to 18".
+#[test]
+fn views_of_other_lengths() {
+    for length in 2..=62 {
+        let mut body = Request::view(3, &[1, 2, 3, 4, 5, 6]).bytes().split_off(4);
+        body.resize(length - 2, 0);
+        if length >= 6 {
+            body[2] = (length as u8 - 6) / 2;
+        }
+        let answer = Desk::fresh().answer(&framed(7, &body));
+        let right = [8, 10, 12, 14, 16, 18].contains(&length);
+        let standing = Answer::Standing((length as i64 - 6) / 2);
+        assert_eq!(answer, if right { standing } else { Answer::Refused(5) }, "{length}");
+        assert_eq!(Desk::fresh().answer(&framed(8, &body)), Answer::Refused(4));
+    }
+}
+
+#[test]
+fn values_come_in_the_order_named() {
+    let mut desk = Desk::fresh();
+    settled(&mut desk, first_add(0));
+    let (place, measure) = (8_388_673, 76_022_100_792_200);
+    // Claimed are 50, 0, 65, 66: passage 25 has rank 0.
+    let mut view = Request::view(3, &[66, 0, 65, 50]);
+    assert_eq!(asked(&mut desk, view), Answer::Standing(4));
+    let got = [(); 8].map(|()| asked(&mut desk, Request::step(3)));
+    for k in 1..=4 {
+        assert_eq!(got[k as usize - 1], Answer::Claimed(k));
+    }
+    assert_eq!(got[4..7], [1, 2, 3].map(Answer::Returned));
+    assert_eq!(got[7], Answer::Seen(vec![measure, 1, place, 0]));
+    assert_eq!(asked(&mut desk, Request::step(3)), Answer::Refused(9));
+    view = Request::view(3, &[0, 50, 65, 66]);
+    assert_eq!(settled(&mut desk, view), Answer::Seen(vec![1, 0, place, measure]));
+}
+
+#[test]
+fn a_correction_lands_between_looks_but_not_in_a_view() {
+    let mut desk = Desk::fresh();
+    settled(&mut desk, first_add(0));
+    let quoted = [(Team, 1), (R, 1), (From, 1), (To, 2), (Distance, 5_000), (Compass, 9_000)];
+    let mut correct = Request::new(Kind::Correct, &quoted);
+    set(&mut correct, &[(Clino, -150), (NewDistance, 1)]);
+    let (old, new) = (correct.measure().written() as u64, correct.new_measure().written() as u64);
+    // It has both its words; a look at the link goes through, and then it lands.
+    asked(&mut desk, correct);
+    (0..2).for_each(|_| drop(asked(&mut desk, Request::step(1))));
+    assert_eq!(asked(&mut desk, Request::look(64)), Answer::Value(0));
+    (0..2).for_each(|_| drop(asked(&mut desk, Request::step(1))));
+    assert_eq!(asked(&mut desk, Request::look(66)), Answer::Value(new));
+    // It is undone; now a view has the leg's place, and the correction waits for it.
+    let mut undo = correct;
+    set(&mut undo, &[(Distance, 1), (Compass, 0), (Clino, 0), (NewDistance, 5_000)]);
+    set(&mut undo, &[(NewCompass, 9_000), (NewClino, -150)]);
+    assert_eq!(settled(&mut desk, undo), Answer::Granted(4));
+    asked(&mut desk, Request::view(2, &[66, 65, 64]));
+    (0..2).for_each(|_| drop(asked(&mut desk, Request::step(2))));
+    asked(&mut desk, correct);
+    assert_eq!(asked(&mut desk, Request::step(1)), Answer::Waiting(65));
+    let rest = [(); 4].map(|()| asked(&mut desk, Request::step(2)));
+    assert_eq!(rest[3], Answer::Seen(vec![old, 8_388_673, 0]));
+    let last = [(); 4].map(|()| asked(&mut desk, Request::step(1)));
+    assert_eq!(last[3], Answer::Granted(5), "2 x 2 and a wait");
+}
+
+#[test]
+fn two_views_of_one_word() {
+    let mut desk = Desk::fresh();
+    for team in [4, 5] {
+        assert_eq!(asked(&mut desk, Request::view(team, &[4_095])), Answer::Standing(1));
+    }
+    assert_eq!(asked(&mut desk, Request::step(4)), Answer::Claimed(1));
+    assert_eq!(asked(&mut desk, Request::step(5)), Answer::Waiting(4_095));
+    assert_eq!(asked(&mut desk, Request::look(4_095)), Answer::Held);
+    assert_eq!(asked(&mut desk, Request::step(4)), Answer::Seen(vec![0]));
+    assert_eq!(asked(&mut desk, Request::step(5)), Answer::Claimed(1));
+    assert_eq!(asked(&mut desk, Request::step(5)), Answer::Seen(vec![0]));
+    assert_eq!(desk, Desk::fresh());
+}
+
+#[test]
+fn an_output_of_52_bytes_is_enough() {
+    let mut desk = Desk::fresh();
+    let six = Request::view(0, &[1, 2, 3, 4, 5, 6]);
+    asked(&mut desk, six);
+    (0..11).for_each(|_| drop(asked(&mut desk, Request::step(0))));
+    let (before, step) = (desk.clone(), Request::step(0).bytes());
+    assert_eq!((desk.call(&step, &mut [0; 51]), &desk), (2, &before));
+    assert_eq!(desk.call(&step, &mut [0; 52]), 52);
+}
+
 /// Two passages with a leg each, two tickets that move them across.
 fn opposite_moves(p: i64, q: i64) -> Vec<u8> {
     let mut frames = Vec::new();
@@ -185,19 +311,41 @@ fn planted(answer: Answer, which: usize) -> Option<Answer> {
         (Answer::Found(word), 7) => Some(Answer::Found(word + 1)),
         (Answer::Claimed(5), 8) => Some(Answer::Found(0)),
         (Answer::Waiting(_), 9) => Some(Answer::Refused(9)),
+        (Answer::Seen(values), 10) => {
+            let rest = &values[1..];
+            Some(Answer::Seen([&[values[0] + 1], rest].concat()))
+        }
+        (Answer::Seen(mut values), 11) if values.iter().any(|value| *value != values[0]) => {
+            values.rotate_left(1);
+            Some(Answer::Seen(values))
+        }
+        (Answer::Seen(values), 12) => Some(Answer::Returned(values.len() as i64)),
+        (Answer::Seen(_), 13) => Some(Answer::Granted(2)),
+        (Answer::Returned(_), 14) => Some(Answer::Seen(vec![0])),
         _ => None,
     }
+}
+
+/// Whether the step at an index is one of an edit that ends.
+fn is_of_edit(frames: &[&[u8]], answers: &[Vec<u8>], at: usize) -> bool {
+    let later = (at..answers.len()).filter(|i| frames[*i] == frames[at]);
+    let last = later.filter_map(|i| Answer::of_bytes(&answers[i]));
+    let mut last = last.filter(|answer| matches!(answer.number(), 134 | 135 | 139));
+    last.next().is_some_and(|answer| !matches!(answer, Answer::Seen(_)))
 }
 
 #[test]
 fn demand_three_notices_planted_faults() {
     let input = streams::contention(3, 3_000);
     let right: Vec<Vec<u8>> = split(&survey(&input)).iter().map(|bytes| bytes.to_vec()).collect();
-    for which in 0..10 {
+    let frames = split(&input);
+    for which in 0..15 {
         let fits = |bytes: &[u8]| planted(Answer::of_bytes(bytes)?, which);
-        let places: Vec<usize> = (0..right.len()).filter(|i| fits(&right[*i]).is_some()).collect();
+        // A wait passed over is noticed by tries, which a view doesn't tell.
+        let told = |i: &usize| which != 9 || is_of_edit(&frames, &right, *i);
+        let places = (0..right.len()).filter(|i| fits(&right[*i]).is_some()).filter(told);
+        let places: Vec<usize> = places.collect();
         assert!(places.len() > 10, "fault {which} has {} places", places.len());
-        // Waits of a ticket that never ends are no matter for tries: take early ones.
         for at in places.iter().take(10) {
             let mut answers = right.clone();
             answers[*at] = fits(&right[*at]).unwrap().bytes();
@@ -234,6 +382,7 @@ fn reading_is_the_inverse_of_writing() {
 #[test]
 fn the_lent_cases_are_as_stored() {
     lent::check(include_str!("../../crates/lent/stdout")).unwrap();
+    lent::check(include_str!("../../crates/lent_views/stdout")).unwrap();
 }
 
 #[test]

@@ -124,7 +124,7 @@ impl Plain {
                 let leg = self.lists[p as usize].remove(index);
                 self.lists[q as usize].insert(0, leg);
             }
-            Kind::Step | Kind::Look => return None,
+            Kind::Step | Kind::Look | Kind::View => return None,
         }
         Some(())
     }
@@ -152,11 +152,14 @@ impl Plain {
 /// What a bystander knows of one team's ticket.
 #[derive(Clone, Debug)]
 struct Heard {
-    edit: Request,
+    /// The edit or view that opened it.
+    opener: Request,
     /// Its words by rising position.
     words: Vec<i64>,
     /// Whether the edit succeeded on the plain book, once decided.
     decided: Option<bool>,
+    /// The plain book's words, in the order named, at a view's last claim.
+    seen: Option<Vec<u64>>,
     /// The word that Found named.
     found: Option<i64>,
     steps: i64,
@@ -164,6 +167,22 @@ struct Heard {
     /// "a ticket holds its k-th target by position from Claimed k until Put k,
     /// Returned k or the ticket's last answer"
     holds: Vec<i64>,
+}
+
+impl Heard {
+    /// The k-th target's word.
+    fn target(&self, k: i64) -> Result<i64, String> {
+        let n = self.words.len() as i64;
+        demand((1..=n).contains(&k), || format!("target {k} of {n}"))?;
+        Ok(self.words[k as usize - 1])
+    }
+
+    /// "until Put k, Returned k"
+    fn release(&mut self, k: i64) -> Verdict {
+        let word = self.target(k)?;
+        self.holds.retain(|held| *held != word);
+        Ok(())
+    }
 }
 
 /// A bystander of one list of calls, who complains where demand 3 fails.
@@ -210,7 +229,7 @@ impl Watch {
         match request.kind {
             Kind::Look => self.hear_look(request.get(Looked), answer),
             Kind::Step => self.hear_step(request.team(), answer),
-            _ => self.hear_edit(request, answer),
+            _ => self.hear_opener(request, answer),
         }
     }
 
@@ -232,44 +251,46 @@ impl Watch {
         }
     }
 
-    /// "A ticket's edit is the edit frame that opened it, answered Standing."
-    fn hear_edit(&mut self, edit: Request, answer: Answer) -> Verdict {
-        let words: Vec<i64> = targets(&edit).iter().map(|target| target.word).collect();
+    /// "A ticket's edit is the edit frame that opened it, answered Standing." A
+    /// view "opens with Standing, n".
+    fn hear_opener(&mut self, opener: Request, answer: Answer) -> Verdict {
+        let words: Vec<i64> = targets(&opener).iter().map(|target| target.word).collect();
         let standing = answer == Answer::Standing(words.len() as i64);
-        demand(standing, || format!("an edit is answered {answer}"))?;
-        demand(!self.is_busy(edit.team()), || "a second ticket stands".to_string())?;
+        demand(standing, || format!("{opener} is answered {answer}"))?;
+        demand(!self.is_busy(opener.team()), || "a second ticket stands".to_string())?;
         let heard = Heard {
-            edit,
+            opener,
             words,
             decided: None,
+            seen: None,
             found: None,
             steps: 0,
             waits: 0,
             holds: Vec::new(),
         };
-        self.teams.insert(edit.team(), heard);
+        self.teams.insert(opener.team(), heard);
         Ok(())
     }
 
     fn hear_step(&mut self, team: i64, answer: Answer) -> Verdict {
         let mut heard = self.teams.remove(&team).ok_or("a step without a ticket is answered")?;
         heard.steps += 1;
-        let last = self.hear_of(&mut heard, answer)?;
+        let last = match heard.opener.kind {
+            Kind::View => self.hear_of_view(&mut heard, answer)?,
+            _ => self.hear_of_edit(&mut heard, answer)?,
+        };
         if !last {
             self.teams.insert(team, heard);
         }
         Ok(())
     }
 
-    /// Takes one answer to a step; true if it was the ticket's last.
-    fn hear_of(&mut self, heard: &mut Heard, answer: Answer) -> Result<bool, String> {
+    /// Takes one answer to a step of an edit; true if it was the ticket's last.
+    fn hear_of_edit(&mut self, heard: &mut Heard, answer: Answer) -> Result<bool, String> {
         let n = heard.words.len() as i64;
         match answer {
             Answer::Claimed(k) => {
-                demand((1..=n).contains(&k), || format!("{answer} of {n}"))?;
-                let word = heard.words[k as usize - 1];
-                demand(self.holder(word).is_none(), || format!("word {word} is held twice"))?;
-                heard.holds.push(word);
+                self.hold(heard, k)?;
                 // "decided as granted at the step answered Claimed with the number
                 // of its edit's targets"
                 if k == n {
@@ -282,11 +303,7 @@ impl Watch {
                 self.decide(heard, false)?;
                 heard.found = Some(word);
             }
-            Answer::Put(k) | Answer::Returned(k) => {
-                demand((1..=n).contains(&k), || format!("{answer} of {n}"))?;
-                let word = heard.words[k as usize - 1];
-                heard.holds.retain(|held| *held != word);
-            }
+            Answer::Put(k) | Answer::Returned(k) => heard.release(k)?,
             Answer::Granted(tries) => {
                 self.hear_last(heard, true, tries)?;
                 // "A granted ticket has tries of 2n plus its waits"
@@ -305,24 +322,67 @@ impl Watch {
                 self.hear_last(heard, false, tries)?;
                 return Ok(true);
             }
-            _ => return Err(format!("a step is answered {answer}")),
+            _ => return Err(format!("a step of an edit is answered {answer}")),
         }
         Ok(false)
+    }
+
+    /// The same of a view, which is "never stale".
+    fn hear_of_view(&mut self, heard: &mut Heard, answer: Answer) -> Result<bool, String> {
+        let n = heard.words.len() as i64;
+        match answer {
+            Answer::Claimed(k) => {
+                self.hold(heard, k)?;
+                if k == n {
+                    self.see(heard)?;
+                }
+            }
+            Answer::Waiting(_) => heard.waits += 1,
+            Answer::Returned(k) => heard.release(k)?,
+            Answer::Seen(_) => {
+                // "and shows the plain book's words of that moment"
+                let own = heard.seen.clone().map(Answer::Seen);
+                demand(own.as_ref() == Some(&answer), || {
+                    format!("{answer}, at the last claim the plain book had {own:?}")
+                })?;
+                let (steps, waits) = (heard.steps, heard.waits);
+                demand(steps == 2 * n + waits, || format!("{steps} steps, but 2 x {n} + {waits}"))?;
+                return Ok(true);
+            }
+            _ => return Err(format!("a step of a view is answered {answer}")),
+        }
+        Ok(false)
+    }
+
+    /// "from Claimed k"
+    fn hold(&self, heard: &mut Heard, k: i64) -> Verdict {
+        let word = heard.target(k)?;
+        demand(self.holder(word).is_none(), || format!("word {word} is held twice"))?;
+        heard.holds.push(word);
+        Ok(())
+    }
+
+    /// "A finished view takes its place at its last claim".
+    fn see(&self, heard: &mut Heard) -> Verdict {
+        demand(heard.seen.is_none(), || "a view has two last claims".to_string())?;
+        let own = |word: &i64| self.plain.word(*word) as u64;
+        heard.seen = Some(heard.opener.named().iter().map(own).collect());
+        Ok(())
     }
 
     /// "The plain book is fed the fields of these frames ... It finds for itself
     /// whether an edit succeeds."
     fn decide(&mut self, heard: &mut Heard, granted: bool) -> Verdict {
         demand(heard.decided.is_none(), || "a ticket is decided twice".to_string())?;
-        let succeeds = self.plain.play(&heard.edit);
+        let succeeds = self.plain.play(&heard.opener);
         let [claimed, found] = [granted, succeeds].map(|yes| if yes { "granted" } else { "stale" });
         demand(granted == succeeds, || {
-            format!("decided as {claimed}, the plain book says {found}: {}", heard.edit)
+            format!("decided as {claimed}, the plain book says {found}: {}", heard.opener)
         })?;
         heard.decided = Some(succeeds);
-        self.adds += i64::from(granted && heard.edit.kind == Kind::Add);
-        self.strikes += i64::from(granted && heard.edit.kind == Kind::Strike);
-        self.check_leg(heard.edit.get(R))?;
+        self.adds += i64::from(granted && heard.opener.kind == Kind::Add);
+        self.strikes += i64::from(granted && heard.opener.kind == Kind::Strike);
+        self.check_leg(heard.opener.get(R))?;
         // "the counts of all passages in the plain book, each the length of its
         // list, sum to granted adds less granted strikes"
         demand(self.plain.legs() == self.adds - self.strikes, || "counts don't add up".to_string())

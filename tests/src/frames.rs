@@ -4,16 +4,21 @@ use crate::layout::{Measure, LEGS, WORDS};
 use std::fmt;
 
 /// The named fields of all frames. `Distance`, `Compass`, `Clino` are M (of
-/// Correct: the old M), the `New` ones are Correct's new M.
+/// Correct: the old M), the `New` ones are Correct's new M. `N` and the words
+/// after it are a view's.
 #[rustfmt::skip]
 #[derive(Clone, Copy, Debug, PartialEq, Eq)]
 pub enum Field {
     Team, P, Q, F, R, S, H, C, D, From, To,
     Distance, Compass, Clino, NewDistance, NewCompass, NewClino, Looked,
+    N, Word1, Word2, Word3, Word4, Word5, Word6,
 }
 use Field::*;
 
-const FIELDS: usize = 18;
+const FIELDS: usize = 25;
+
+/// The words that a view names, in the order named.
+pub const NAMED: [Field; 6] = [Word1, Word2, Word3, Word4, Word5, Word6];
 
 impl Field {
     /// "16 bits unless said (distance 32, clino signed)".
@@ -59,17 +64,21 @@ pub enum Kind {
     Move = 4,
     Step = 5,
     Look = 6,
+    View = 7,
 }
 
 impl Kind {
-    pub const ALL: [Kind; 6] =
-        [Kind::Add, Kind::Correct, Kind::Strike, Kind::Move, Kind::Step, Kind::Look];
+    #[rustfmt::skip]
+    const ALL: [Kind; 7] = [
+        Kind::Add, Kind::Correct, Kind::Strike, Kind::Move, Kind::Step, Kind::Look, Kind::View,
+    ];
 
     fn of(number: i64) -> Option<Kind> {
         Kind::ALL.into_iter().find(|kind| *kind as i64 == number)
     }
 
-    pub fn form(self) -> &'static [Field] {
+    /// The fields of the kind, in their longest form.
+    fn form(self) -> &'static [Field] {
         match self {
             // "1 Add (length 24): team p r h c from to M."
             Kind::Add => &[Team, P, R, H, C, From, To, Distance, Compass, Clino],
@@ -84,37 +93,23 @@ impl Kind {
             // "5 Step (4): team. 6 Look (4): word."
             Kind::Step => &[Team],
             Kind::Look => &[Looked],
+            // "kind 7, names a team, a count n of 1 to 6 and n distinct words"
+            Kind::View => &[Team, N, Word1, Word2, Word3, Word4, Word5, Word6],
         }
     }
 
-    /// The length of the kind: its fields and the kind itself.
-    pub fn length(self) -> usize {
-        2 + self.form().iter().map(|field| field.width()).sum::<usize>()
+    /// Whether the length is that of the kind: its fields and the kind itself.
+    fn has_length(self, length: usize) -> bool {
+        match self {
+            // "Its length is even, 8 to 18"
+            Kind::View => length % 2 == 0 && (8..=18).contains(&length),
+            _ => length == 2 + self.form().iter().map(|field| field.width()).sum::<usize>(),
+        }
     }
 
-    pub fn is_edit(self) -> bool {
+    /// Edits and views.
+    pub fn opens_a_ticket(self) -> bool {
         !matches!(self, Kind::Step | Kind::Look)
-    }
-}
-
-/// Least and greatest of a field, as refusals 6 and 10 have them.
-pub fn limits(kind: Kind, field: Field) -> (i64, i64) {
-    match field {
-        Team => (0, 15),
-        P | Q => (0, 31),
-        R => (1, LEGS),
-        // "f, s, h 0 to 1,344"
-        F | S | H => (0, LEGS),
-        // "c in Add and d 0 to 1,343; other c 1 to 1,344"
-        C if kind == Kind::Add => (0, LEGS - 1),
-        C => (1, LEGS),
-        D => (0, LEGS - 1),
-        From | To => (0, 65_535),
-        Distance | NewDistance => (1, 100_000),
-        Compass | NewCompass => (0, 35_999),
-        Clino | NewClino => (-9_000, 9_000),
-        // "looked-at word 0 to 4,095"
-        Looked => (0, WORDS - 1),
     }
 }
 
@@ -122,12 +117,14 @@ pub fn limits(kind: Kind, field: Field) -> (i64, i64) {
 #[derive(Clone, Copy, Debug, PartialEq, Eq)]
 pub struct Request {
     pub kind: Kind,
+    /// How many words the frame has room to name, whatever its n says.
+    names: usize,
     values: [i64; FIELDS],
 }
 
 impl Request {
     pub fn new(kind: Kind, values: &[(Field, i64)]) -> Request {
-        let mut request = Request { kind, values: [0; FIELDS] };
+        let mut request = Request { kind, names: 0, values: [0; FIELDS] };
         for (field, value) in values {
             request.set(*field, *value);
         }
@@ -140,6 +137,28 @@ impl Request {
 
     pub fn look(word: i64) -> Request {
         Request::new(Kind::Look, &[(Looked, word)])
+    }
+
+    /// A view of one to six words.
+    pub fn view(team: i64, words: &[i64]) -> Request {
+        let mut view = Request::new(Kind::View, &[(Team, team), (N, words.len() as i64)]);
+        view.names = words.len();
+        NAMED.iter().zip(words).for_each(|(field, word)| view.set(*field, *word));
+        view
+    }
+
+    /// The fields that the frame has.
+    pub fn form(&self) -> &'static [Field] {
+        let form = self.kind.form();
+        match self.kind {
+            Kind::View => &form[..2 + self.names],
+            _ => form,
+        }
+    }
+
+    /// The words that a view names, in the order named.
+    pub fn named(&self) -> Vec<i64> {
+        NAMED[..self.names].iter().map(|field| self.get(*field)).collect()
     }
 
     pub fn get(&self, field: Field) -> i64 {
@@ -165,37 +184,65 @@ impl Request {
         Measure { distance, compass, clino }
     }
 
+    /// Least and greatest of a field, as refusals 6 and 10 have them.
+    pub fn limits(&self, field: Field) -> (i64, i64) {
+        match field {
+            Team => (0, 15),
+            P | Q => (0, 31),
+            R => (1, LEGS),
+            // "f, s, h 0 to 1,344"
+            F | S | H => (0, LEGS),
+            // "c in Add and d 0 to 1,343; other c 1 to 1,344"
+            C if self.kind == Kind::Add => (0, LEGS - 1),
+            C => (1, LEGS),
+            D => (0, LEGS - 1),
+            From | To => (0, 65_535),
+            Distance | NewDistance => (1, 100_000),
+            Compass | NewCompass => (0, 35_999),
+            Clino | NewClino => (-9_000, 9_000),
+            // "looked-at word 0 to 4,095"
+            Looked => (0, WORDS - 1),
+            // "an n other than (length - 6) / 2 or a word above 4,095 counts under 10"
+            N => (self.names as i64, self.names as i64),
+            Word1 | Word2 | Word3 | Word4 | Word5 | Word6 => (0, WORDS - 1),
+        }
+    }
+
     /// "10. A field is out of range".
     pub fn out_of_range(&self) -> bool {
-        self.kind.form().iter().any(|field| {
-            let (least, greatest) = limits(self.kind, *field);
+        self.form().iter().any(|field| {
+            let (least, greatest) = self.limits(*field);
             !(least..=greatest).contains(&self.get(*field))
         })
     }
 
-    /// "11. from equals to, q equals p, or a leg number other than 0 is named twice."
+    /// "11. from equals to, q equals p, or a leg number other than 0 is named
+    /// twice." Of a view: "equal words under 11".
     pub fn muddled(&self) -> bool {
-        let form = self.kind.form();
+        let form = self.form();
         let same = |a: Field, b: Field| {
             form.contains(&a) && form.contains(&b) && self.get(a) == self.get(b)
         };
-        let named: Vec<i64> = form
+        let legs: Vec<i64> = form
             .iter()
             .filter(|field| matches!(field, F | R | S | H))
             .map(|field| self.get(*field))
             .filter(|leg| *leg != 0)
             .collect();
-        let twice = (1..named.len()).any(|i| named[..i].contains(&named[i]));
-        same(From, To) || same(Q, P) || twice
+        same(From, To) || same(Q, P) || any_twice(&legs) || any_twice(&self.named())
     }
 
     /// The frame's bytes; fields that the frame can't carry are cut off.
     pub fn bytes(&self) -> Vec<u8> {
-        let body = self.kind.form().iter().flat_map(|field| {
+        let body = self.form().iter().flat_map(|field| {
             self.get(*field).to_le_bytes().into_iter().take(field.width()).collect::<Vec<u8>>()
         });
         framed(self.kind as i64, &body.collect::<Vec<u8>>())
     }
+}
+
+pub fn any_twice<T: PartialEq>(list: &[T]) -> bool {
+    (1..list.len()).any(|i| list[..i].contains(&list[i]))
 }
 
 /// "Each starts with a 16-bit length of what follows it, then a 16-bit kind".
@@ -213,15 +260,18 @@ pub fn parse(frame: &[u8]) -> Result<Request, i64> {
     if frame.len() < 4 || frame.len() > 64 || little(&frame[..2]) != frame.len() as i64 - 2 {
         return Err(3);
     }
-    // "4. The kind isn't 1 to 6."
+    // "4. The kind isn't 1 to 6", and now 7.
     let kind = Kind::of(little(&frame[2..4])).ok_or(4)?;
     // "5. The length isn't that of the kind."
-    if frame.len() - 2 != kind.length() {
+    if !kind.has_length(frame.len() - 2) {
         return Err(5);
     }
     let mut request = Request::new(kind, &[]);
+    if kind == Kind::View {
+        request.names = (frame.len() - 2 - 6) / 2;
+    }
     let mut rest = &frame[4..];
-    for field in kind.form() {
+    for field in request.form() {
         let (bytes, after) = rest.split_at(field.width());
         request.set(*field, field.read(bytes));
         rest = after;
@@ -268,7 +318,7 @@ pub fn split(stream: &[u8]) -> Vec<&[u8]> {
     }
 }
 
-#[derive(Clone, Copy, Debug, PartialEq, Eq)]
+#[derive(Clone, Debug, PartialEq, Eq)]
 pub enum Answer {
     Standing(i64),
     Claimed(i64),
@@ -281,11 +331,13 @@ pub enum Answer {
     Value(u64),
     Held,
     Refused(i64),
+    /// "kind 139 with the values in the order named"
+    Seen(Vec<u64>),
 }
 
 impl Answer {
     /// "Answers: 128 Standing, n. 129 Claimed, how many. ..."
-    pub fn number(self) -> i64 {
+    pub fn number(&self) -> i64 {
         match self {
             Answer::Standing(_) => 128,
             Answer::Claimed(_) => 129,
@@ -298,16 +350,18 @@ impl Answer {
             Answer::Value(_) => 136,
             Answer::Held => 137,
             Answer::Refused(_) => 138,
+            Answer::Seen(_) => 139,
         }
     }
 
-    pub fn bytes(self) -> Vec<u8> {
-        let short = |number: i64| (number as u16).to_le_bytes().to_vec();
-        let tries = |number: i64| (number as u32).to_le_bytes().to_vec();
+    pub fn bytes(&self) -> Vec<u8> {
+        let short = |number: &i64| (*number as u16).to_le_bytes().to_vec();
+        let tries = |number: &i64| (*number as u32).to_le_bytes().to_vec();
         let body = match self {
             Answer::Granted(count) => tries(count),
             Answer::Stale(word, count) => [short(word), tries(count)].concat(),
             Answer::Value(bits) => bits.to_le_bytes().to_vec(),
+            Answer::Seen(values) => values.iter().flat_map(|bits| bits.to_le_bytes()).collect(),
             Answer::Held => Vec::new(),
             Answer::Standing(x) | Answer::Claimed(x) | Answer::Waiting(x) => short(x),
             Answer::Found(x) | Answer::Put(x) | Answer::Returned(x) => short(x),
@@ -333,23 +387,30 @@ impl Answer {
             136 => Answer::Value(u64::from_le_bytes(body.try_into().ok()?)),
             137 => Answer::Held,
             138 => Answer::Refused(first),
+            139 if (1..=6).contains(&(body.len() / 8)) => Answer::Seen(longs(body)),
             _ => return None,
         };
         (answer.bytes() == bytes).then_some(answer)
     }
 }
 
+/// The whole 64-bit numbers of a body.
+fn longs(body: &[u8]) -> Vec<u64> {
+    let long = |bytes: &[u8]| bytes.iter().rev().fold(0, |sum, byte| sum << 8 | u64::from(*byte));
+    body.chunks_exact(8).map(long).collect()
+}
+
 impl fmt::Display for Request {
     fn fmt(&self, f: &mut fmt::Formatter) -> fmt::Result {
         write!(f, "{:?}:", self.kind)?;
-        for field in self.kind.form() {
+        for field in self.form() {
             let name = format!("{field:?}")
                 .to_lowercase()
                 .replace("new", "new ")
                 .replace("looked", "word");
             write!(f, " {name} {},", self.get(*field))?;
         }
-        write!(f, " in a frame of {} bytes", 2 + self.kind.length())
+        write!(f, " in a frame of {} bytes", self.bytes().len())
     }
 }
 
@@ -367,6 +428,7 @@ impl fmt::Display for Answer {
             Answer::Value(bits) => write!(f, "Value {bits}"),
             Answer::Held => write!(f, "Held"),
             Answer::Refused(number) => write!(f, "Refused {number}"),
+            Answer::Seen(values) => write!(f, "Seen, values {values:?}"),
         }
     }
 }

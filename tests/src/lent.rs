@@ -3,24 +3,27 @@
 //! things up (numbers are decimal, bytes hexadecimal):
 //!
 //! - `fresh`: 4,096 zero words, no ticket. `book N`: N zero words.
-//! - `word W V`, `ticket TEAM PHASE N CLAIMED DONE TRIES : WORD QUOTED NEW : ...`
+//! - `word W V`, `ticket TEAM PHASE N CLAIMED DONE TRIES : WORD QUOTED NEW : ...`;
+//!   of a view QUOTED is the value noted, and NEW the word named in that place.
 //! - `call LENGTH FILL : FRAME`: with an output of that many bytes FILL. Gives
 //!   `= returns N`, `= output BYTES`, and each word and ticket that changed.
 //! - `read PLACE MEASURE`: gives `= leg P FROM TO DISTANCE COMPASS CLINO` or `= no leg`.
 //!
-//! The program `crates/lent` makes the same calls on the library and writes the same
-//! text. A ticket there has room for six targets: it shows the first n and those behind
-//! them that are not three zeros, so a text names no other.
+//! The programs `crates/lent` and `crates/lent_views` make the same calls on the library
+//! and write the same text. A ticket there has room for six targets: it shows the first n
+//! and those behind them that are not three zeros, so a text names no other.
 
 use crate::frames::hex;
 use crate::layout::{reading, Word};
 use crate::model::{Desk, Phase, Target, Ticket};
 use crate::streams::of_hex;
 
-const PHASES: [(&str, Phase); 3] = [
+const PHASES: [(&str, Phase); 5] = [
     ("claiming", Phase::Claiming),
     ("putting", Phase::Putting),
     ("giving-back", Phase::GivingBack),
+    ("viewing", Phase::Viewing),
+    ("viewed", Phase::Viewed),
 ];
 
 fn numbers(text: &str) -> Result<Vec<u64>, String> {

@@ -1,11 +1,13 @@
 //! The second model: "Edits", "Tickets and steps", "Frames refused, in checking
-//! order" and "The program survey".
+//! order" and "The program survey", and of document 02 "Words seen together".
 
-use crate::frames::{next, parse, Answer, Field::*, Kind, Next, Request};
+use crate::frames::{any_twice, next, parse, Answer, Field::*, Kind, Next, Request};
 use crate::layout::*;
 use std::collections::BTreeMap;
 
-/// "Each target is a word, a quoted value and a new value."
+/// "Each target is a word, a quoted value and a new value." Of a view, the quoted
+/// value is the one noted, 0 before, and the new values of all targets, as they
+/// stand, are the words in the order named: not this target's own word.
 #[derive(Clone, Copy, Debug, PartialEq, Eq)]
 pub struct Target {
     pub word: i64,
@@ -13,7 +15,8 @@ pub struct Target {
     pub new: Word,
 }
 
-/// The targets of an edit, in the order in which "Edits" lists them.
+/// The targets of an edit, in the order in which "Edits" lists them, or those of
+/// a view, in the order named.
 pub fn listed_targets(edit: &Request) -> Vec<Target> {
     let target = |word: i64, quoted: i64, new: i64| Target {
         word,
@@ -61,23 +64,36 @@ pub fn listed_targets(edit: &Request) -> Vec<Target> {
             target(link_word(r), s, h),
             target(place_word(r), place_in(p), place_in(q)),
         ],
+        Kind::View => edit.named().iter().map(|word| target(*word, 0, *word)).collect(),
         Kind::Step | Kind::Look => Vec::new(),
     }
 }
 
 /// "Targets are claimed by rising position."
-pub fn targets(edit: &Request) -> Vec<Target> {
-    let mut targets = listed_targets(edit);
-    targets.sort_by_key(|target| position(target.word));
+pub fn targets(request: &Request) -> Vec<Target> {
+    targets_by(request, position)
+}
+
+/// The targets in some order of their words. A view's list of names stays as it is.
+pub fn targets_by(request: &Request, order: fn(i64) -> i64) -> Vec<Target> {
+    let listed = listed_targets(request);
+    let mut targets = listed.clone();
+    targets.sort_by_key(|target| order(target.word));
+    if request.kind == Kind::View {
+        targets.iter_mut().zip(listed).for_each(|(target, named)| target.new = named.new);
+    }
     targets
 }
 
-/// "It is claiming, putting or giving back".
+/// "It is claiming, putting or giving back". A view is claiming while `Viewing`,
+/// and giving back when `Viewed`.
 #[derive(Clone, Copy, Debug, PartialEq, Eq)]
 pub enum Phase {
     Claiming,
     Putting,
     GivingBack,
+    Viewing,
+    Viewed,
 }
 
 /// A ticket, also one that a caller lent and that isn't well made.
@@ -94,13 +110,16 @@ pub struct Ticket {
 /// "Tries ... stops rising at 4,294,967,295."
 pub const STOP: i64 = 4_294_967_295;
 
+/// "Every call now needs an output of 52 bytes instead of 12."
+pub const OUTPUT: usize = 52;
+
 impl Ticket {
     /// "An edit opens it claiming, its targets stored by rising position, with
-    /// nothing claimed or done and tries 0".
-    pub fn opened(edit: &Request) -> Ticket {
-        let targets = targets(edit);
-        let n = targets.len() as i64;
-        Ticket { phase: Phase::Claiming, n, claimed: 0, done: 0, tries: 0, targets }
+    /// nothing claimed or done and tries 0". So does a view.
+    pub fn opened(request: &Request) -> Ticket {
+        let targets = targets(request);
+        let phase = if request.kind == Kind::View { Phase::Viewing } else { Phase::Claiming };
+        Ticket { phase, n: targets.len() as i64, claimed: 0, done: 0, tries: 0, targets }
     }
 
     /// "A ticket is well made if ..."
@@ -122,7 +141,32 @@ impl Ticket {
                 Phase::Putting => self.done < self.n,
                 // "when giving back done is below claimed and claimed below n"
                 Phase::GivingBack => self.done < self.claimed && self.claimed < self.n,
+                Phase::Viewing => self.claimed < self.n && self.names_its_targets(),
+                // "A view giving back has claimed equal to n."
+                Phase::Viewed => {
+                    self.done < self.claimed && self.claimed == self.n && self.names_its_targets()
+                }
             }
+    }
+
+    /// "A view ... whose named words aren't distinct and its targets in some order,
+    /// isn't well made."
+    fn names_its_targets(&self) -> bool {
+        let names = self.names();
+        let words = self.targets[..names.len()].iter().map(|target| Word::Value(target.word));
+        let words: Vec<Word> = words.collect();
+        !any_twice(&names) && names.iter().all(|name| words.contains(name))
+    }
+
+    /// The words of a view, in the order named.
+    fn names(&self) -> Vec<Word> {
+        self.targets[..self.n as usize].iter().map(|target| target.new).collect()
+    }
+
+    /// "the values in the order named"
+    fn seen(&self) -> Vec<u64> {
+        let noted = |name: &Word| self.targets.iter().find(|t| Word::Value(t.word) == *name);
+        self.names().iter().filter_map(noted).map(|target| target.quoted.bits()).collect()
     }
 
     fn target(&self, index: i64) -> Target {
@@ -149,8 +193,8 @@ impl Desk {
         if self.book.len() as i64 != WORDS {
             return 1;
         }
-        // "2. The output is shorter than 12 bytes."
-        if output.len() < 12 {
+        // "2. The output is shorter than 12 bytes", and now 52.
+        if output.len() < OUTPUT {
             return 2;
         }
         // "The call returns the bytes written; later bytes of the output keep
@@ -195,8 +239,8 @@ impl Desk {
         match self.tickets.get(&request.team()) {
             // "7. The team's own ticket isn't well made."
             Some(ticket) if !ticket.well_made() => Err(7),
-            // "8. An edit comes from a team with a ticket."
-            Some(_) if request.kind.is_edit() => Err(8),
+            // "8. An edit comes from a team with a ticket." A view alike.
+            Some(_) if request.kind.opens_a_ticket() => Err(8),
             // "9. A step comes from a team without one."
             None if request.kind == Kind::Step => Err(9),
             _ => Ok(()),
@@ -204,10 +248,10 @@ impl Desk {
     }
 
     /// "... and changes no word (Standing)."
-    fn open(&mut self, edit: &Request) -> Answer {
-        let ticket = Ticket::opened(edit);
+    fn open(&mut self, request: &Request) -> Answer {
+        let ticket = Ticket::opened(request);
         let n = ticket.n;
-        self.tickets.insert(edit.team(), ticket);
+        self.tickets.insert(request.team(), ticket);
         Answer::Standing(n)
     }
 
@@ -227,9 +271,11 @@ impl Desk {
             Phase::Claiming => self.claim(team, &mut ticket),
             Phase::Putting => self.put(team, &mut ticket),
             Phase::GivingBack => self.give_back(team, &mut ticket),
+            Phase::Viewing => self.note(team, &mut ticket),
+            Phase::Viewed => self.give_back_seen(team, &mut ticket),
         };
         // "A finished ticket is gone."
-        if !matches!(answer, Answer::Granted(_) | Answer::Stale(..)) {
+        if !matches!(answer, Answer::Granted(_) | Answer::Stale(..) | Answer::Seen(_)) {
             self.tickets.insert(team, ticket);
         }
         answer
@@ -295,6 +341,36 @@ impl Desk {
             Answer::Returned(ticket.done)
         }
     }
+
+    /// "claims each by position, noting the value found, never stale: its claiming
+    /// swap ... takes any value below 2^63 and else waits; then it gives all back"
+    fn note(&mut self, team: i64, ticket: &mut Ticket) -> Answer {
+        let target = &mut ticket.targets[ticket.claimed as usize];
+        let word = &mut self.book[target.word as usize];
+        if let Word::Marked(_) = *word {
+            return Answer::Waiting(target.word);
+        }
+        target.quoted = *word;
+        *word = Word::Marked(team);
+        ticket.claimed += 1;
+        if ticket.claimed == ticket.n {
+            ticket.phase = Phase::Viewed;
+            ticket.done = 0;
+        }
+        Answer::Claimed(ticket.claimed)
+    }
+
+    /// "and the last step answers kind 139 with the values in the order named"
+    fn give_back_seen(&mut self, team: i64, ticket: &mut Ticket) -> Answer {
+        let target = ticket.target(ticket.done);
+        self.leave(team, target.word, target.quoted);
+        ticket.done += 1;
+        if ticket.done == ticket.n {
+            Answer::Seen(ticket.seen())
+        } else {
+            Answer::Returned(ticket.done)
+        }
+    }
 }
 
 /// "It starts from a fresh book of 4,096 zero words, reads frames from standard
@@ -312,7 +388,7 @@ pub fn survey(input: &[u8]) -> Vec<u8> {
                 return output;
             }
             Next::Whole(frame) => {
-                let mut room = [0; 12];
+                let mut room = [0; OUTPUT];
                 let written = desk.call(frame, &mut room);
                 output.extend(&room[..written as usize]);
                 rest = &rest[frame.len()..];

@@ -1,7 +1,7 @@
 //! Seeded streams of frames: contention, a full book, fuzz, damage, endings.
 
 use crate::demand3::{sweep, Plain, Watch};
-use crate::frames::{framed, limits, split, Answer, Field, Field::*, Kind, Request};
+use crate::frames::{framed, split, Answer, Field, Field::*, Kind, Request, NAMED};
 use crate::layout::*;
 use crate::model::Desk;
 
@@ -54,7 +54,9 @@ struct Site {
     legs: Vec<i64>,
     teams: i64,
     looks: i64,
-    edits: i64,
+    /// Tickets opened, and how many of them are views.
+    opened: i64,
+    views: i64,
     /// Edits with one quoted field made wrong.
     wrong: i64,
     /// Edits quoted from an old view of the lists.
@@ -71,7 +73,8 @@ impl Site {
             legs: rng.some(legs, 1, LEGS),
             teams: rng.pick(&[2, 5, 16, 16, 16]),
             looks: rng.pick(&[2, 10, 25]),
-            edits: rng.pick(&[5, 15, 30]),
+            opened: rng.pick(&[5, 15, 30]),
+            views: rng.pick(&[10, 25, 50]),
             wrong: rng.pick(&[3, 10, 30]),
             old: rng.pick(&[0, 5, 20]),
             burst: rng.pick(&[1, 1, 3, 12]),
@@ -92,7 +95,7 @@ fn stations(rng: &mut Prng) -> (i64, i64) {
 /// A measure; its least and greatest figures come often.
 fn measure(rng: &mut Prng) -> [i64; 3] {
     [Distance, Compass, Clino].map(|field| {
-        let (least, greatest) = limits(Kind::Add, field);
+        let (least, greatest) = Request::new(Kind::Add, &[]).limits(field);
         let between = rng.between(least, greatest);
         rng.pick(&[least, greatest, between, between, between])
     })
@@ -168,9 +171,33 @@ fn draft_move(view: &Plain, team: i64, p: i64, q: i64, index: usize) -> Request 
     edit
 }
 
+/// A word of the site's passages and legs.
+fn a_word(rng: &mut Prng, site: &Site) -> i64 {
+    let (p, r) = (rng.pick(&site.passages), rng.pick(&site.legs));
+    let of_leg = rng.pick(&[link_word(r), place_word(r), measure_word(r)]);
+    rng.pick(&[newest_word(p), count_word(p), of_leg])
+}
+
+/// A view of one to six words, most of them those of one leg and its passage.
+fn draft_view(rng: &mut Prng, site: &Site, plain: &Plain, team: i64) -> Request {
+    let p = rng.pick(&site.passages);
+    let r = if plain.list(p).is_empty() { rng.pick(&site.legs) } else { plain.newest(p) };
+    let near = [newest_word(p), count_word(p), link_word(r), place_word(r), measure_word(r)];
+    let (n, mut words) = (rng.between(1, 6) as usize, Vec::new());
+    while words.len() < n {
+        let any = a_word(rng, site);
+        let word = rng.pick(&near);
+        let word = rng.pick(&[word, word, any]);
+        if !words.contains(&word) {
+            words.push(word);
+        }
+    }
+    Request::view(team, &words)
+}
+
 /// Makes one of the quoted fields wrong.
 fn misquote(rng: &mut Prng, site: &Site, edit: &mut Request) {
-    let field = rng.pick(edit.kind.form());
+    let field = rng.pick(edit.form());
     let now = edit.get(field);
     let value = match field {
         Team => now,
@@ -178,7 +205,7 @@ fn misquote(rng: &mut Prng, site: &Site, edit: &mut Request) {
         F | R | S | H => rng.pick(&[0, next_leg(site, now)]),
         _ => now + rng.pick(&[-1, 1]),
     };
-    let (least, greatest) = limits(edit.kind, field);
+    let (least, greatest) = edit.limits(field);
     edit.set(field, value.clamp(least, greatest));
 }
 
@@ -188,28 +215,41 @@ fn next_leg(site: &Site, now: i64) -> i64 {
     site.legs[at % site.legs.len()]
 }
 
-/// A request with every field in range and no two legs alike.
-fn a_fair_request(kind: Kind) -> Request {
-    let mut request = Request::new(kind, &[(P, 1), (Q, 2), (F, 3), (R, 4), (S, 5), (H, 6)]);
-    set(&mut request, &[(C, 1), (D, 1), (From, 1), (To, 2)]);
-    set(&mut request, &[(Distance, 1), (NewDistance, 1)]);
-    request
+/// An edit with every field in range and no two legs alike.
+fn a_fair_edit(kind: Kind) -> Request {
+    let mut edit = Request::new(kind, &[(P, 1), (Q, 2), (F, 3), (R, 4), (S, 5), (H, 6)]);
+    set(&mut edit, &[(C, 1), (D, 1), (From, 1), (To, 2)]);
+    set(&mut edit, &[(Distance, 1), (NewDistance, 1)]);
+    edit
+}
+
+/// Requests of each kind, and views of each length, that aren't refused.
+fn fair_requests() -> Vec<Request> {
+    let edits = [Kind::Add, Kind::Correct, Kind::Strike, Kind::Move].map(a_fair_edit);
+    let views = (1..=6).map(|n| Request::view(0, &[50, 1, 0, 13, 64, 4_094][..n]));
+    edits.into_iter().chain([Request::step(0), Request::look(0)]).chain(views).collect()
 }
 
 /// Changes of a fair request that may make it one to refuse.
-fn oddities(kind: Kind) -> Vec<Vec<(Field, i64)>> {
-    let form = kind.form();
+fn oddities(request: &Request) -> Vec<Vec<(Field, i64)>> {
     let mut found = Vec::new();
-    for field in form {
-        let (least, greatest) = limits(kind, *field);
+    for field in request.form() {
+        let (least, greatest) = request.limits(*field);
         let values = [least - 1, least, greatest, greatest + 1];
         let carried = values.into_iter().filter(|value| field.carries(*value));
         found.extend(carried.map(|value| vec![(*field, value)]));
     }
-    for (one, other) in PAIRS.into_iter().filter(|(a, b)| form.contains(a) && form.contains(b)) {
+    for (one, other) in pairs(request) {
         found.extend([0, 7].map(|value| vec![(one, value), (other, value)]));
     }
     found
+}
+
+/// The pairs of a request's fields that mustn't agree.
+fn pairs(request: &Request) -> Vec<(Field, Field)> {
+    let words = (0..6).flat_map(|i| (0..i).map(move |j| (NAMED[j], NAMED[i])));
+    let has = |field: &Field| request.form().contains(field);
+    PAIRS.into_iter().chain(words).filter(|(one, other)| has(one) && has(other)).collect()
 }
 
 const PAIRS: [(Field, Field); 8] =
@@ -249,7 +289,7 @@ impl Author {
         }
     }
 
-    /// Something that teams do: a look, an edit, steps.
+    /// Something that teams do: a look, an edit or a view, steps.
     fn turn(&mut self) {
         if self.rng.percent(2) {
             self.old_view = self.watch.plain.clone();
@@ -258,8 +298,8 @@ impl Author {
         let (share, busy) = (self.rng.below(100), self.watch.is_busy(team));
         if share < self.site.looks {
             self.look();
-        } else if !busy && share < self.site.looks + self.site.edits {
-            self.edit(team);
+        } else if !busy && share < self.site.looks + self.site.opened {
+            self.open(team);
         } else if !busy && self.rng.percent(3) {
             self.oppose();
         } else if busy || self.rng.percent(1) {
@@ -268,10 +308,21 @@ impl Author {
     }
 
     fn look(&mut self) {
-        let (p, r) = (self.rng.pick(&self.site.passages), self.rng.pick(&self.site.legs));
-        let of_leg = self.rng.pick(&[link_word(r), place_word(r), measure_word(r)]);
-        let word = self.rng.pick(&[newest_word(p), count_word(p), of_leg]);
+        let word = a_word(&mut self.rng, &self.site);
         self.say(&Request::look(word).bytes());
+    }
+
+    fn open(&mut self, team: i64) {
+        if self.rng.percent(self.site.views) {
+            let view = self.drafted_view(team);
+            self.say(&view.bytes());
+        } else {
+            self.edit(team);
+        }
+    }
+
+    fn drafted_view(&mut self, team: i64) -> Request {
+        draft_view(&mut self.rng, &self.site, &self.watch.plain, team)
     }
 
     fn drafted(&mut self, team: i64) -> Request {
@@ -360,24 +411,25 @@ impl Author {
             let struck = draft_strike(&self.watch.plain, 4, p, index);
             self.settle(&struck);
         }
+        let last = [measure_word(LEGS), newest_word(p), place_word(LEGS), link_word(LEGS)];
+        self.settle(&Request::view(5, &last));
         self.site.legs = (1..=LEGS).collect();
     }
 
-    /// Says an edit, and ends its ticket if there is one now.
-    fn settle(&mut self, edit: &Request) {
-        self.say(&edit.bytes());
-        self.finish(edit.team());
+    /// Says an edit or a view, and ends its ticket if there is one now.
+    fn settle(&mut self, opener: &Request) {
+        self.say(&opener.bytes());
+        self.finish(opener.team());
     }
 
     /// Each field of each kind at and one past each limit, each pair of fields
     /// that mustn't agree (both 0 is all right for legs), and each pair of those.
     fn every_limit(&mut self) {
-        for kind in Kind::ALL {
-            let plain = a_fair_request(kind);
-            let oddities = oddities(kind);
+        for fair in fair_requests() {
+            let oddities = oddities(&fair);
             for (index, odd) in oddities.iter().enumerate() {
                 for other in &oddities[index..] {
-                    let mut request = plain;
+                    let mut request = fair;
                     set(&mut request, odd);
                     set(&mut request, other);
                     self.settle(&request);
@@ -387,12 +439,17 @@ impl Author {
     }
 
     /// A move between each two passages of a fresh book, so that all its quotes
-    /// are wrong: Stale names the word that is claimed first.
+    /// are wrong: Stale names the word that is claimed first. And a view of a word
+    /// of each: a look after its first claim shows which that was.
     fn every_rank(&mut self) {
         for (p, q) in (0..PASSAGES).flat_map(|p| (0..PASSAGES).map(move |q| (p, q))) {
-            let mut request = a_fair_request(Kind::Move);
+            let mut request = a_fair_edit(Kind::Move);
             set(&mut request, &[(P, p), (Q, q), (F, 0)]);
             self.settle(&request);
+            self.say(&Request::view(0, &[newest_word(p), count_word(q)]).bytes());
+            self.say(&Request::step(0).bytes());
+            self.say(&Request::look(newest_word(p)).bytes());
+            self.finish(0);
         }
     }
 
@@ -410,12 +467,13 @@ impl Author {
     /// A frame with something wrong, or nearly so.
     fn oddity(&mut self) {
         let team = self.rng.below(TEAMS);
-        let mut request = match self.rng.below(4) {
+        let mut request = match self.rng.below(5) {
             0 => Request::step(team),
             1 => Request::look(self.rng.below(WORDS)),
+            2 => self.drafted_view(team),
             _ => self.drafted(team),
         };
-        let frame = match self.rng.below(9) {
+        let frame = match self.rng.below(11) {
             0 | 1 => self.at_a_limit(&mut request),
             2 => self.repeating(&mut request),
             3 => self.other_kind(&request),
@@ -423,6 +481,7 @@ impl Author {
             5 => self.other_team(&mut request),
             6 => self.any_frame(),
             7 => self.bit_turned(&request),
+            8 | 9 => self.odd_view(team),
             _ => request.bytes(),
         };
         self.say(&frame);
@@ -431,8 +490,8 @@ impl Author {
     /// "fields at and one past each limit"; sometimes two of them.
     fn at_a_limit(&mut self, request: &mut Request) -> Vec<u8> {
         for _ in 0..self.rng.between(1, 2) {
-            let field = self.rng.pick(request.kind.form());
-            let (least, greatest) = limits(request.kind, field);
+            let field = self.rng.pick(request.form());
+            let (least, greatest) = request.limits(field);
             let value = self.rng.pick(&[least - 1, least, greatest, greatest + 1]);
             if field.carries(value) {
                 request.set(field, value);
@@ -441,10 +500,14 @@ impl Author {
         request.bytes()
     }
 
-    /// from = to, q = p, leg numbers repeated; sometimes out of range as well.
+    /// from = to, q = p, leg numbers or words repeated; sometimes out of range as
+    /// well.
     fn repeating(&mut self, request: &mut Request) -> Vec<u8> {
-        let (one, other) = self.rng.pick(&PAIRS);
-        request.set(one, request.get(other));
+        let pairs = pairs(request);
+        if !pairs.is_empty() {
+            let (one, other) = self.rng.pick(&pairs);
+            request.set(one, request.get(other));
+        }
         if self.rng.percent(20) {
             return self.at_a_limit(request);
         }
@@ -452,7 +515,7 @@ impl Author {
     }
 
     fn other_kind(&mut self, request: &Request) -> Vec<u8> {
-        let kind = self.rng.pick(&[0, 1, 2, 3, 4, 5, 6, 7, 128, 138, 256, 261, 65_535]);
+        let kind = self.rng.pick(&[0, 1, 2, 3, 4, 5, 6, 7, 8, 128, 139, 256, 261, 263, 65_535]);
         framed(kind, &request.bytes()[4..])
     }
 
@@ -462,6 +525,29 @@ impl Author {
         body.extend(self.rng.bytes(60));
         body.truncate(count as usize);
         framed(request.kind as i64, &body)
+    }
+
+    /// A view with its n, a word or two, or its length wrong, or several of them.
+    fn odd_view(&mut self, team: i64) -> Vec<u8> {
+        let mut view = self.drafted_view(team);
+        let n = view.get(N);
+        if self.rng.percent(40) {
+            view.set(N, self.rng.pick(&[0, n - 1, n + 1, 6, 7, n + 256, 65_535]));
+        }
+        if self.rng.percent(40) {
+            let field = self.rng.pick(&NAMED[..n as usize]);
+            view.set(field, self.rng.pick(&[4_095, 4_096, 65_535]));
+        }
+        if self.rng.percent(40) {
+            return self.repeating(&mut view);
+        }
+        let mut body = view.bytes().split_off(4);
+        if self.rng.percent(40) {
+            let length = self.rng.between(6, 20) as usize;
+            body.extend(self.rng.bytes(16));
+            body.truncate(length - 2);
+        }
+        framed(Kind::View as i64, &body)
     }
 
     fn other_team(&mut self, request: &mut Request) -> Vec<u8> {
@@ -543,9 +629,10 @@ pub fn endings(seed: u64) -> Vec<Vec<u8>> {
     let mut author = Author::new(seed);
     author.contend(40);
     let before = author.bytes.clone();
-    let edit = author.drafted(1).bytes();
+    let (edit, view) = (author.drafted(1).bytes(), author.drafted_view(2).bytes());
     let lengths = [0u16, 1, 2, 61, 62, 63, 64, 255, 256, 65_535];
-    let mut tails: Vec<Vec<u8>> = (0..=edit.len()).map(|cut| edit[..cut].to_vec()).collect();
+    let cuts = |whole: Vec<u8>| (0..=whole.len()).map(move |cut| whole[..cut].to_vec());
+    let mut tails: Vec<Vec<u8>> = cuts(edit).chain(cuts(view)).collect();
     for length in lengths {
         for count in [0, 1, 2, i64::from(length.min(70))] {
             tails.push([&length.to_le_bytes()[..], &author.rng.bytes(count)[..]].concat());
@@ -589,4 +676,4 @@ pub fn stored() -> Vec<u8> {
     author.bytes
 }
 
-const STORED_SEED: u64 = 12;
+const STORED_SEED: u64 = 255;

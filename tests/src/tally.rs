@@ -10,24 +10,26 @@ pub struct Tally {
     counts: BTreeMap<String, i64>,
 }
 
-/// Each team's last edit, whether it waited, and whether it found a word differing.
+/// Each team's last edit or view, whether it waited, and whether it found a word
+/// differing.
 type Open = BTreeMap<i64, (Request, bool, bool)>;
 
 /// Every answer, and every refusal that a stream can reach: 1 and 2 are the
 /// caller's, and 7 needs a ticket table that was lent.
 #[rustfmt::skip]
-const ANSWERS: [&str; 19] = [
+const ANSWERS: [&str; 20] = [
     "Standing", "Claimed", "Waiting", "Found", "Put", "Returned", "Granted", "Stale", "Value",
-    "Held", "Refused", "Refused 3", "Refused 4", "Refused 5", "Refused 6", "Refused 8",
+    "Held", "Seen", "Refused", "Refused 3", "Refused 4", "Refused 5", "Refused 6", "Refused 8",
     "Refused 9", "Refused 10", "Refused 11",
 ];
 
 /// What streams with contention must also have shown.
 #[rustfmt::skip]
-const OUTCOMES: [&str; 10] = [
+const OUTCOMES: [&str; 17] = [
     "granted Add", "granted Correct", "granted Move", "granted Strike of newest",
     "granted Strike of oldest", "granted Strike of middle", "granted Strike of only",
-    "stale at once", "stale after Found", "granted after waits",
+    "stale at once", "stale after Found", "granted after waits", "seen 1", "seen 2", "seen 3",
+    "seen 4", "seen 5", "seen 6", "seen after waits",
 ];
 
 impl Tally {
@@ -45,14 +47,14 @@ impl Tally {
         for (frame, bytes) in split(input).into_iter().zip(split(output)) {
             self.frames += 1;
             let Some(answer) = Answer::of_bytes(bytes) else { continue };
-            self.count_answer(answer);
+            self.count_answer(&answer);
             if let Ok(request) = parse(frame) {
-                self.count_outcome(&mut open, request, answer);
+                self.count_outcome(&mut open, request, &answer);
             }
         }
     }
 
-    fn count_answer(&mut self, answer: Answer) {
+    fn count_answer(&mut self, answer: &Answer) {
         let shown = format!("{answer:?}");
         self.one_more(shown.split('(').next().unwrap_or(""));
         if let Answer::Refused(number) = answer {
@@ -60,7 +62,7 @@ impl Tally {
         }
     }
 
-    fn count_outcome(&mut self, open: &mut Open, request: Request, answer: Answer) {
+    fn count_outcome(&mut self, open: &mut Open, request: Request, answer: &Answer) {
         let team = request.team();
         match (answer, open.get_mut(&team)) {
             (Answer::Standing(_), _) => drop(open.insert(team, (request, false, false))),
@@ -72,6 +74,12 @@ impl Tally {
                 self.one_more(&granted_name(edit));
                 if *waited {
                     self.one_more("granted after waits");
+                }
+            }
+            (Answer::Seen(values), Some((_, waited, _))) => {
+                self.one_more(&format!("seen {}", values.len()));
+                if *waited {
+                    self.one_more("seen after waits");
                 }
             }
             _ => {}
@@ -102,7 +110,7 @@ impl Tally {
         format!("{} frames in {} streams: {counts}", self.frames, self.streams)
     }
 
-    /// One line of how edits came out.
+    /// One line of how edits and views came out.
     pub fn outcomes(&self) -> String {
         let counts = OUTCOMES.iter().map(|name| format!("{name} {}", self.of(name)));
         counts.collect::<Vec<_>>().join(", ")

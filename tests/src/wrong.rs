@@ -1,9 +1,9 @@
 //! Wrong programs for `serve --wrong`: the model with one fault put around it,
 //! so that the comparison can be seen to tell each apart.
 
-use crate::frames::{parse, Answer, Field::*, Kind};
+use crate::frames::{parse, Answer, Field::*, Kind, Request};
 use crate::layout::Word;
-use crate::model::{listed_targets, Desk, Phase, Ticket};
+use crate::model::{listed_targets, targets_by, Desk, Phase, Ticket};
 
 #[derive(Clone, Copy, Debug, PartialEq, Eq)]
 pub enum Fault {
@@ -25,9 +25,19 @@ pub enum Fault {
     ReportsOnly,
     /// Answers are written at the end of input only.
     Late,
+    /// A view takes and notes a mark where it should wait.
+    NotesMark,
+    /// A view notes its words one after another and claims none.
+    NotesOnly,
+    /// A view shows its values in the order claimed.
+    ClaimedOrder,
+    /// A view shows the value of its first claim for all its words.
+    FirstValue,
+    /// A view shows its values with the last word not given back.
+    KeepsWord,
 }
 
-pub const FAULTS: [(&str, Fault); 9] = [
+pub const FAULTS: [(&str, Fault); 14] = [
     ("waiting-when-free", Fault::WaitingWhenFree),
     ("gives-back-new", Fault::GivesBackNew),
     ("listing-order", Fault::ListingOrder),
@@ -37,6 +47,11 @@ pub const FAULTS: [(&str, Fault); 9] = [
     ("uncounted-waits", Fault::UncountedWaits),
     ("reports-only", Fault::ReportsOnly),
     ("late", Fault::Late),
+    ("notes-mark", Fault::NotesMark),
+    ("notes-only", Fault::NotesOnly),
+    ("claimed-order", Fault::ClaimedOrder),
+    ("first-value", Fault::FirstValue),
+    ("keeps-word", Fault::KeepsWord),
 ];
 
 pub fn named(name: &str) -> Option<Fault> {
@@ -52,15 +67,19 @@ pub fn answer(fault: Fault, desk: &mut Desk, frame: &[u8]) -> Answer {
         if let Some(early) = before_step(fault, ticket, &desk.book) {
             return early;
         }
+        let wrong = claim_of_view(fault, desk, team).or_else(|| last_of_view(fault, desk, team));
+        if let Some(instead) = wrong {
+            return instead;
+        }
     }
     let answer = desk.answer(frame);
     let after = desk.tickets.get_mut(&team);
-    match (fault, answer, after) {
+    match (fault, &answer, after) {
         (Fault::ListingOrder, Answer::Standing(_), Some(ticket)) => {
             ticket.targets = listed_targets(&request);
         }
         (Fault::WordOrder, Answer::Standing(_), Some(ticket)) => {
-            ticket.targets.sort_by_key(|target| target.word);
+            ticket.targets = targets_by(&request, |word| word);
         }
         (Fault::UncountedWaits, Answer::Waiting(_), Some(ticket)) => ticket.tries -= 1,
         (Fault::ShowsMark, Answer::Held, _) => {
@@ -72,6 +91,9 @@ pub fn answer(fault: Fault, desk: &mut Desk, frame: &[u8]) -> Answer {
             let ticket = Ticket::opened(&request);
             desk.tickets.insert(team, ticket);
             return Answer::Standing(5);
+        }
+        (Fault::ClaimedOrder, Answer::Standing(_), Some(ticket)) if request.kind == Kind::View => {
+            ticket.targets.iter_mut().for_each(|target| target.new = Word::Value(target.word));
         }
         _ => {}
     }
@@ -97,6 +119,47 @@ fn before_step(fault: Fault, ticket: &mut Ticket, book: &[Word]) -> Option<Answe
                 ticket.claimed += 1;
                 Answer::Claimed(ticket.claimed)
             })
+        }
+        _ => None,
+    }
+}
+
+/// A claim of a view that should have waited, or should have left its mark.
+fn claim_of_view(fault: Fault, desk: &mut Desk, team: i64) -> Option<Answer> {
+    let ticket = desk.tickets.get_mut(&team).filter(|ticket| ticket.phase == Phase::Viewing)?;
+    let target = &mut ticket.targets[ticket.claimed as usize];
+    let word = &mut desk.book[target.word as usize];
+    let left = match (fault, *word) {
+        (Fault::NotesMark, Word::Marked(_)) => Word::Marked(team),
+        (Fault::NotesOnly, Word::Value(_)) => *word,
+        _ => return None,
+    };
+    target.quoted = std::mem::replace(word, left);
+    ticket.tries += 1;
+    ticket.claimed += 1;
+    if ticket.claimed == ticket.n {
+        (ticket.phase, ticket.done) = (Phase::Viewed, 0);
+    }
+    Some(Answer::Claimed(ticket.claimed))
+}
+
+/// The last step of a view, with other values or without its swap.
+fn last_of_view(fault: Fault, desk: &mut Desk, team: i64) -> Option<Answer> {
+    let ticket = desk.tickets.get(&team)?;
+    if ticket.phase != Phase::Viewed || ticket.done + 1 < ticket.n {
+        return None;
+    }
+    let (first, n) = (ticket.targets[0].quoted.bits(), ticket.n);
+    let step = Request::step(team).bytes();
+    match fault {
+        Fault::FirstValue => {
+            desk.answer(&step);
+            Some(Answer::Seen(vec![first; n as usize]))
+        }
+        Fault::KeepsWord => {
+            let answer = desk.clone().answer(&step);
+            desk.tickets.remove(&team);
+            Some(answer)
         }
         _ => None,
     }

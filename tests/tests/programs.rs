@@ -44,6 +44,9 @@ fn wrong_programs_are_told_apart() {
     for fault in ["shows-mark", "strikes-itself", "uncounted-waits", "reports-only", "late"] {
         told_apart(fault);
     }
+    for fault in ["notes-mark", "notes-only", "claimed-order", "first-value", "keeps-word"] {
+        told_apart(fault);
+    }
 }
 
 #[test]

@@ -3,7 +3,7 @@
 
 #![forbid(unsafe_code)]
 
-use plain::{Book, LONGEST_ANSWER, LONGEST_FRAME};
+use plain::{Book, LONGEST_FRAME, SLACK};
 use std::fs::File;
 use std::io::{self, ErrorKind, Read, Write};
 use std::os::fd::AsFd;
@@ -16,7 +16,7 @@ fn main() -> io::Result<()> {
     let mut frames = File::from(io::stdin().as_fd().try_clone_to_owned()?);
     let mut answers = File::from(io::stdout().as_fd().try_clone_to_owned()?);
     let mut input = vec![0; CHUNK + LONGEST_FRAME];
-    let mut output = vec![0; 3 * CHUNK + LONGEST_ANSWER];
+    let mut output = vec![0; 3 * CHUNK + SLACK];
     let mut book = Book::fresh();
     let mut filled = 0;
     loop {

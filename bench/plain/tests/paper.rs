@@ -296,6 +296,52 @@ fn giving_back() {
     ]);
 }
 
+/// The last answer of a view.
+fn seen(values: &[u64]) -> Vec<u8> {
+    let body = values.iter().flat_map(|value| value.to_le_bytes());
+    let length = 2 + 8 * values.len() as u8;
+    [length, 0, 139, 0].into_iter().chain(body).collect()
+}
+
+#[test]
+fn views() {
+    let claimed = |k| frame(&[129, k]);
+    let returned = |k| frame(&[133, k]);
+    check(&[
+        edit(add(0, 0, 1, 0, 0), 0, 5),
+        // Word 50 is claimed first, then 0, 65, 66.
+        [frame(&[7, 4, 4, 66, 0, 65, 50]), frame(&[128, 4])],
+        [step(4), claimed(1)],
+        [
+            [look(50), look(0)].concat(),
+            [frame(&[137]), value(1)].concat(),
+        ],
+        [step(4).repeat(2), [claimed(2), claimed(3)].concat()],
+        // A correction waits for the view, and another view for the correction.
+        [correct(5, 0, 1), frame(&[128, 2])],
+        [step(5), frame(&[130, 65])],
+        [
+            step(4).repeat(4),
+            [claimed(4), returned(1), returned(2), returned(3)].concat(),
+        ],
+        [step(5), claimed(1)],
+        [frame(&[7, 6, 1, 65]), frame(&[128, 1])],
+        [step(6), frame(&[130, 65])],
+        [step(4), seen(&[MEASURE, 1, place(0), 0])],
+        [step(4), refused(9)],
+        [
+            step(5).repeat(3),
+            [claimed(2), frame(&[132, 1]), granted(5)].concat(),
+        ],
+        [step(6).repeat(2), [claimed(1), seen(&[place(0)])].concat()],
+        [look(66), value(MEASURE2)],
+        [frame(&[7, 6, 6, 1, 2, 3, 4, 5, 66]), frame(&[128, 6])],
+        [step(6).repeat(6), (1..=6).flat_map(claimed).collect()],
+        [step(6).repeat(5), (1..=5).flat_map(returned).collect()],
+        [step(6), seen(&[1, 0, 0, 0, 0, MEASURE2])],
+    ]);
+}
+
 #[test]
 fn opposite_moves_go_by_position() {
     // Passage 25 has rank 0, passage 0 rank 3: both claim passage 25 first.
@@ -336,17 +382,21 @@ fn refusals() {
         [vec![0, 0], refused(3)],
         [vec![1, 0, 5], refused(3)],
         [frame(&[0]), refused(4)],
-        [frame(&[7, 99]), refused(4)],
+        [frame(&[8, 99]), refused(4)],
         [frame(&[65_535, 0]), refused(4)],
-        [vec![3, 0, 7, 0, 0], refused(4)],
+        [vec![3, 0, 8, 0, 0], refused(4)],
         [frame(&[5]), refused(5)],
         [frame(&[5, 16, 0]), refused(5)],
         [vec![3, 0, 5, 0, 0], refused(5)],
         [frame(&[1; 31]), refused(5)],
         [frame(&[6, 0, 0]), refused(5)],
+        [frame(&[7, 16, 0]), refused(5)],
+        [frame(&[7, 16, 7, 1, 2, 3, 4, 5, 6, 7]), refused(5)],
+        [vec![9, 0, 7, 0, 0, 0, 1, 0, 5, 0, 0], refused(5)],
         [step(16), refused(6)],
         [step(65_535), refused(6)],
         [add(16, 99, 0, 0, 0), refused(6)],
+        [frame(&[7, 16, 9, 4_096]), refused(6)],
         [step(15), refused(9)],
         [look(4_096), refused(10)],
         [look(65_535), refused(10)],
@@ -356,6 +406,7 @@ fn refusals() {
         [correct(9, 99, 1), refused(8)],
         [strike(9, 0, 3, 3, 0, 1), refused(8)],
         [move_leg(9, 0, 0, [0, 1, 0, 1], [0, 0]), refused(8)],
+        [frame(&[7, 9, 9, 5, 5]), refused(8)],
         // 10 before 11: from is to, and clino is 9,001.
         with(at(add(0, 0, 1, 0, 0), 6, 2), 11, 9_001),
         // add: kind team p r h c from to M
@@ -409,6 +460,12 @@ fn refusals() {
         eleven(at(good_move(), 6, 3)),
         eleven(at(good_move(), 6, 5)),
         eleven(at(good_move(), 8, 3)),
+        // view: kind team n words
+        with(frame(&[7, 0, 2, 5, 6]), 2, 1),
+        with(frame(&[7, 0, 2, 5, 6]), 2, 3),
+        with(frame(&[7, 0, 2, 5, 6]), 4, 4_096),
+        with(frame(&[7, 0, 2, 5, 5]), 2, 0),
+        eleven(frame(&[7, 0, 6, 1, 2, 3, 4, 5, 1])),
     ];
     // The ends of the ranges are in range, and none may be named often.
     let standing = |n: u16| frame(&[128, n]);

@@ -5,10 +5,10 @@ ghost use Prim.Native.Nat.{_+_, _-_, _≤_, _<_};
 ghost use lib.ListN.{length};
 ghost use Rattle.words.specs.Words.{wordsInBook, teamCount};
 ghost use Rattle.tickets.specs.Tickets.{wellMade};
-ghost use Rattle.tickets.specs.Steps.{afterAnswer, AnswerFits};
-ghost use Rattle.frames.specs.Requests.{partAfterKind, addKind, stepKind, lengthOfKind, editOfKind};
+ghost use Rattle.tickets.specs.Steps.{asStep, afterAnswer, AnswerFits, stepOf};
+ghost use Rattle.frames.specs.Requests.{partAfterKind, editOfKind, viewWordsIn};
 ghost use Rattle.frames.specs.Numbers.{number16};
-ghost use Rattle.frames.specs.Fields.{Whole, editRead};
+ghost use Rattle.frames.specs.Fields.{Whole, ViewFields, editRead, viewRead};
 ghost use Rattle.frames.specs.Answers.{longestAnswer, answerFrame, written};
 ghost use Rattle.frames.specs.declared.Answer.the-variants as Answer;
 ghost use Rattle.frames.specs.declared.Header.the-variants as Header;
@@ -16,7 +16,7 @@ ghost use Rattle.calls.specs.Call.{callOf};
 ghost use Rattle.calls.specs.declared.Stop.the-variants.{MoreInput};
 ghost use Rattle.calls.specs.declared.Outcome.the-variants as Outcome;
 ghost use Rattle.calls.specs.Stream.{nextAt, NextInside, roomIn, withRoom, streamed, stoppedOr, streamFrom, streamOf};
-ghost use Rattle.calls.specs.Way.{aimBy, aimOf, AimKnown, SlotKnown, TeamFrame, slotOf, settled, lookAnswer, openSettled, outcomeSettled, OutcomeKnown, SlotWellMade, slotWellMade, wellMadeFrom, teamSettled, settledBy};
+ghost use Rattle.calls.specs.Way.{aimBy, aimOf, AimKnown, SlotKnown, TeamFrame, slotOf, settled, lookOutcome, openSettled, viewSettled, stepSettled, ViewStands, EditFields, outcomeSettled, OutcomeKnown, SlotWellMade, slotWellMade, wellMadeFrom, teamSettled, settledBy};
 use calls::Aim;
 use calls::Next;
 use calls::Outcome;
@@ -29,8 +29,9 @@ use frames::EditRead;
 use frames::Frame;
 use frames::Header;
 use frames::Kind;
+use frames::Reading;
 use frames::Refusal;
-use tickets::StepAnswer;
+use tickets::EditAnswer;
 use tickets::Ticket;
 use tickets::Tickets;
 use words::Limits;
@@ -74,20 +75,20 @@ fn slot_of(aim: Aim) -> usize
     }
 }
 
-fn look_at(book: &[u64], part: &[u8]) -> Answer
+fn look_at(book: &[u64], part: &[u8]) -> Outcome
     requires { ⌜ (length (now book) ≡ wordsInBook) × (1 < length (now part)) ⌝ }
-    ensures { λ r. ⌜ r ≡ lookAnswer (now (book .entry)) (number16 (now (part .entry)) 0) ⌝ }
+    ensures { λ r. ⌜ r ≡ lookOutcome (now (book .entry)) (number16 (now (part .entry)) 0) ⌝ }
 {
     let word = frames::numbers::read16(part, 0);
     if (word as usize) < Limits::WORDS {
         let answer = tickets::look(book, word);
-        return Answer::Look(answer);
+        return Outcome::Looked(answer);
     }
-    Answer::Refused(Refusal::RANGE)
+    Outcome::Refused(Refusal::RANGE)
 }
 
 fn open_edit(ticket: Ticket, part: &[u8], kind: u16) -> Settled
-    requires { ⌜ (addKind ≤ kind) × (kind < stepKind) × (length (now part) ≡ lengthOfKind kind - 2) ⌝ }
+    requires { ⌜ EditFields (now part) kind ⌝ }
     ensures { λ r. ⌜ r ≡ openSettled ticket (editRead (editOfKind kind (now (part .entry)))) ⌝ }
 {
     let read = decoder::read_edit(kind, part);
@@ -103,6 +104,41 @@ fn open_edit(ticket: Ticket, part: &[u8], kind: u16) -> Settled
             ticket: ticket,
             answer: Answer::Refused(number),
         },
+    }
+}
+
+fn open_view(ticket: Ticket, part: &[u8]) -> Settled
+    requires { ⌜ ViewFields (now part) ⌝ }
+    ensures { λ r. ⌜ r ≡ viewSettled ticket (viewRead (number16 (now (part .entry)) 2) (viewWordsIn (now (part .entry)))) ⌝ }
+{
+    let read = decoder::read_view(part);
+    let view = read.view;
+    let reading = read.reading;
+    match reading {
+        Reading::Is => {
+            let opened = edits::open_view(view);
+            Settled {
+                ticket: opened,
+                answer: Answer::Standing(opened.n),
+            }
+        }
+        Reading::Refused(number) => Settled {
+            ticket: ticket,
+            answer: Answer::Refused(number),
+        },
+    }
+}
+
+fn step_view(book: &mut [u64], ticket: Ticket, team: u16) -> Settled
+    requires { ⌜ (length (now book) ≡ wordsInBook) × ViewStands ticket team ⌝ }
+    ensures { λ r. ⌜ (r, now (book .exit)) ≡ stepSettled (stepOf (now (book .entry)) ticket team) ⌝ }
+{
+    let stepped = tickets::view_step(book, ticket, team);
+    let next = stepped.ticket;
+    let answer = stepped.answer;
+    Settled {
+        ticket: next,
+        answer: Answer::Step(answer),
     }
 }
 
@@ -131,6 +167,26 @@ fn all_well_made(tickets: Tickets) -> bool
     true
 }
 
+// The same ticket: copied where it is tested, it need not be copied for every frame.
+fn copied(ticket: Ticket) -> Ticket
+    ensures { λ r. ⌜ r ≡ ticket ⌝ }
+{
+    let words = ticket.words;
+    let quoted = ticket.quoted;
+    let new = ticket.new;
+    let phase = ticket.phase;
+    Ticket {
+        words: words,
+        tries: ticket.tries,
+        quoted: quoted,
+        new: new,
+        n: ticket.n,
+        claimed: ticket.claimed,
+        done: ticket.done,
+        phase: phase,
+    }
+}
+
 // Whether a ticket is well made; in a table of which that is known it is not tested again.
 fn known_well_made(ticket: Ticket, known: bool) -> bool
     requires { ⌜ (known ≡ true → wellMade ticket ≡ true) ⌝ }
@@ -139,10 +195,10 @@ fn known_well_made(ticket: Ticket, known: bool) -> bool
     if known {
         return true;
     }
-    ticket.well_made()
+    copied(ticket).well_made()
 }
 
-// A step or an edit of a team, by the ticket that it has or hasn't.
+// A step, an edit or a view of a team, by the ticket that it has or hasn't.
 fn team_frame(
     book: &mut [u64],
     ticket: Ticket,
@@ -152,35 +208,37 @@ fn team_frame(
     team: u16,
 ) -> Outcome
     requires { ⌜ TeamFrame (now book) (now part) kind team × (known ≡ true → SlotWellMade ticket) ⌝ }
-    ensures { λ r. ⌜ ((outcomeSettled ticket (now (part .entry)) r, now (book .exit)) ≡ teamSettled (now (book .entry)) ticket (now (part .entry)) kind team) × OutcomeKnown ticket (now (part .entry)) r ⌝ }
+    ensures { λ r. ⌜ (outcomeSettled (now (book .exit)) ticket (now (part .entry)) r ≡ teamSettled (now (book .entry)) ticket (now (part .entry)) kind team) × OutcomeKnown ticket (now (part .entry)) r ⌝ }
 {
     if ticket.stands() {
         if !known_well_made(ticket, known) {
-            return Outcome::Left(Answer::Refused(Refusal::TICKET));
+            return Outcome::Refused(Refusal::TICKET);
         }
         if kind == Kind::STEP {
+            if ticket.is_view() {
+                return Outcome::Anew(kind, team);
+            }
             let step = tickets::step(book, ticket, team);
             return Outcome::Stepped(step);
         }
-        return Outcome::Left(Answer::Refused(Refusal::STANDING));
+        return Outcome::Refused(Refusal::STANDING);
     }
     if kind == Kind::STEP {
-        return Outcome::Left(Answer::Refused(Refusal::NO_TICKET));
+        return Outcome::Refused(Refusal::NO_TICKET);
     }
-    Outcome::Edit(kind)
+    Outcome::Anew(kind, team)
 }
 
 // What an aimed frame comes to.
 fn settle(book: &mut [u64], ticket: Ticket, known: bool, frame: &[u8], aim: Aim) -> Outcome
     requires { ⌜ (length (now book) ≡ wordsInBook) × AimKnown (now frame) aim × (known ≡ true → SlotWellMade ticket) ⌝ }
-    ensures { λ r. ⌜ ((outcomeSettled ticket (partAfterKind (now (frame .entry))) r, now (book .exit)) ≡ settledBy (now (book .entry)) ticket (now (frame .entry)) aim) × OutcomeKnown ticket (partAfterKind (now (frame .entry))) r ⌝ }
+    ensures { λ r. ⌜ (outcomeSettled (now (book .exit)) ticket (partAfterKind (now (frame .entry))) r ≡ settledBy (now (book .entry)) ticket (now (frame .entry)) aim) × OutcomeKnown ticket (partAfterKind (now (frame .entry))) r ⌝ }
 {
     match aim {
-        Aim::Refused(number) => Outcome::Left(Answer::Refused(number)),
+        Aim::Refused(number) => Outcome::Refused(number),
         Aim::Look => {
             let part = frames::head::part_after_kind(frame);
-            let answer = look_at(book, part);
-            Outcome::Left(answer)
+            look_at(book, part)
         }
         Aim::Team(kind, team) => {
             let part = frames::head::part_after_kind(frame);
@@ -189,43 +247,53 @@ fn settle(book: &mut [u64], ticket: Ticket, known: bool, frame: &[u8], aim: Aim)
     }
 }
 
-// The edit of a frame, read: the ticket that it opens, or its refusal.
-fn open_frame(ticket: Ticket, frame: &[u8], kind: u16) -> Settled
-    requires { ⌜ OutcomeKnown ticket (partAfterKind (now frame)) (Outcome.Edit kind) ⌝ }
-    ensures { λ r. ⌜ r ≡ outcomeSettled ticket (partAfterKind (now (frame .entry))) (Outcome.Edit kind) ⌝ }
+// A ticket made anew: a view stepped, or a view or an edit read, which opens it or is refused.
+fn make_anew(book: &mut [u64], ticket: Ticket, frame: &[u8], kind: u16, team: u16) -> Settled
+    requires { ⌜ (length (now book) ≡ wordsInBook) × OutcomeKnown ticket (partAfterKind (now frame)) (Outcome.Anew kind team) ⌝ }
+    ensures { λ r. ⌜ (r, now (book .exit)) ≡ outcomeSettled (now (book .entry)) ticket (partAfterKind (now (frame .entry))) (Outcome.Anew kind team) ⌝ }
 {
+    if kind == Kind::STEP {
+        return step_view(book, ticket, team);
+    }
     let part = frames::head::part_after_kind(frame);
+    if kind == Kind::VIEW {
+        return open_view(ticket, part);
+    }
     open_edit(ticket, part, kind)
 }
 
-fn step_settled(ticket: Ticket, step: StepAnswer) -> Settled
+fn step_settled(ticket: Ticket, step: EditAnswer) -> Settled
     requires { ⌜ AnswerFits ticket step ⌝ }
-    ensures { λ r. ⌜ r ≡ settled (afterAnswer ticket step) (Answer.Step step) ⌝ }
+    ensures { λ r. ⌜ r ≡ settled (afterAnswer ticket step) (Answer.Step (asStep step)) ⌝ }
 {
     if step.finishes() {
         return Settled {
             ticket: Ticket::none(),
-            answer: Answer::Step(step),
+            answer: Answer::Step(step.as_step()),
         };
     }
     Settled {
         ticket: ticket.after(step),
-        answer: Answer::Step(step),
+        answer: Answer::Step(step.as_step()),
     }
 }
 
-// The ticket that an outcome leaves, and its answer.
-fn settled_by(ticket: Ticket, frame: &[u8], outcome: Outcome) -> Settled
-    requires { ⌜ OutcomeKnown ticket (partAfterKind (now frame)) outcome ⌝ }
-    ensures { λ r. ⌜ r ≡ outcomeSettled ticket (partAfterKind (now (frame .entry))) outcome ⌝ }
+// The ticket and the words that an outcome leaves, and its answer.
+fn settled_by(book: &mut [u64], ticket: Ticket, frame: &[u8], outcome: Outcome) -> Settled
+    requires { ⌜ (length (now book) ≡ wordsInBook) × OutcomeKnown ticket (partAfterKind (now frame)) outcome ⌝ }
+    ensures { λ r. ⌜ (r, now (book .exit)) ≡ outcomeSettled (now (book .entry)) ticket (partAfterKind (now (frame .entry))) outcome ⌝ }
 {
     match outcome {
-        Outcome::Left(answer) => Settled {
+        Outcome::Refused(number) => Settled {
             ticket: ticket,
-            answer: answer,
+            answer: Answer::Refused(number),
+        },
+        Outcome::Looked(look) => Settled {
+            ticket: ticket,
+            answer: Answer::Look(look),
         },
         Outcome::Stepped(step) => step_settled(ticket, step),
-        Outcome::Edit(kind) => open_frame(ticket, frame, kind),
+        Outcome::Anew(kind, team) => make_anew(book, ticket, frame, kind, team),
     }
 }
 
@@ -249,7 +317,7 @@ pub fn call(book: &mut [u64], mut tickets: Tickets, frame: &[u8], out: &mut [u8]
     let slot = slot_of(aim);
     let ticket = tickets.slots[slot];
     let outcome = settle(book, ticket, false, frame, aim);
-    let done = settled_by(ticket, frame, outcome);
+    let done = settled_by(book, ticket, frame, outcome);
     let next = done.ticket;
     let answer = done.answer;
     tickets.slots[slot] = next;
@@ -300,6 +368,17 @@ fn put_answer(out: &mut [u8], at: usize, answer: Answer) -> usize
     at + count
 }
 
+// The same, of the answer to an edit's step: the way of most frames.
+fn put_step(out: &mut [u8], at: usize, step: EditAnswer) -> usize
+    requires { ⌜ (at ≤ length (now out)) × (longestAnswer ≤ length (now out) - at) ⌝ }
+    ensures place { λ r. ⌜ (r ≡ at + written (roomIn (now (out .entry)) at) (answerFrame (Answer.Step (asStep step))) .0) × (r ≤ length (now (out .entry))) ⌝ }
+    ensures bytes { λ r. ⌜ (now (out .exit) ≡ withRoom (now (out .entry)) at (written (roomIn (now (out .entry)) at) (answerFrame (Answer.Step (asStep step))) .1)) × (length (now (out .exit)) ≡ length (now (out .entry))) ⌝ }
+{
+    let room = &mut out[at..];
+    let bytes = encoder::write_edit_step(room, step);
+    at + bytes
+}
+
 fn stopped(tickets: Tickets, consumed: usize, written: usize, stop: Stop) -> Streamed
     ensures { λ r. ⌜ r ≡ streamed tickets consumed written stop ⌝ }
 {
@@ -339,24 +418,28 @@ fn answer_frames(book: &mut [u64], mut tickets: Tickets, input: &[u8], out: &mut
         let outcome = settle(book, ticket, known, frame, aim);
         at = end;
         match outcome {
-            Outcome::Left(answer) => {
-                filled = put_answer(out, filled, answer);
+            Outcome::Refused(number) => {
+                filled = put_answer(out, filled, Answer::Refused(number));
+            }
+            Outcome::Looked(look) => {
+                filled = put_answer(out, filled, Answer::Look(look));
             }
             Outcome::Stepped(step) => {
                 if step.finishes() {
                     let gone = Ticket::none();
                     tickets.slots[slot] = gone;
-                    filled = put_answer(out, filled, Answer::Step(step));
+                    filled = put_step(out, filled, step);
                 } else {
                     let after = ticket.after(step);
                     tickets.slots[slot] = after;
-                    filled = put_answer(out, filled, Answer::Step(step));
+                    filled = put_step(out, filled, step);
                 }
             }
-            Outcome::Edit(kind) => {
-                let opened = open_frame(ticket, frame, kind);
-                let next = opened.ticket;
-                let answer = opened.answer;
+            Outcome::Anew(kind, team) => {
+                let whole = tickets.slots[slot];
+                let anew = make_anew(book, whole, frame, kind, team);
+                let next = anew.ticket;
+                let answer = anew.answer;
                 tickets.slots[slot] = next;
                 filled = put_answer(out, filled, answer);
             }

@@ -11,8 +11,8 @@ use Rattle.tickets.specs.declared.Tickets.{Tickets}
 use Rattle.tickets.specs.Tickets.{absentSlot, ticketOf}
 use Rattle.tickets.specs.Steps.{stepOf, lookOf}
 use Rattle.edits.specs.Opened.{openedTicket}
-use Rattle.frames.specs.declared.Request.{Request}
-use Rattle.frames.specs.declared.Request.the-variants.{Open, Step, Look}
+use Rattle.edits.specs.Views.{openedView}
+use Rattle.frames.specs.Request.{Request, Open, Step, Look, View}
 use Rattle.frames.specs.declared.Answer.{Answer}
 use Rattle.frames.specs.declared.Answer.the-variants as Answer
 use Rattle.frames.specs.Numbers.{Bytes}
@@ -20,7 +20,7 @@ use Rattle.frames.specs.Requests.{requestIn}
 use Rattle.frames.specs.Answers.{answerFrame}
 use Rattle.frames.specs.Reading.{answerFits}
 use Rattle.calls.specs.Call.{refusalOf, Done, done, requestDone, refusedOr, doneOf, Sent, number, bytes, sentOf, writtenBy, callOf}
-use Rattle.calls.specs.Demand1.{TableFits, AnswerTo, opened, stepped, shown, NothingChanged, Answers, Answered, turned-away, refused, answered, Demand1, IsOf, OthersKeepTickets}
+use Rattle.calls.specs.Demand1.{TableFits, AnswerTo, opened, stepped, shown, viewing, NothingChanged, Answers, Answered, turned-away, refused, answered, Demand1, IsOf, OthersKeepTickets}
 use Rattle.calls.proofs.Refusing.{Among, refusal-among}
 use Rattle.calls.proofs.Fitting.{answer-fits}
 use Rattle.calls.proofs.Hearing.{InFrame, in-frame, sent-alone, sent-refused}
@@ -31,12 +31,14 @@ unfolding requestDone
 answer-to words tickets (Open team edit) = opened team
 answer-to words tickets (Step team) = stepped team (stepOf words (ticketOf tickets team) team .0 .answer)
 answer-to words tickets (Look word) = shown word (lookOf words word)
+answer-to words tickets (View team n named) = viewing team n
 
 sent-in-frame : {request : Request} {answer : Answer} → AnswerTo request answer → sentOf answer ≡ bytes (answerFrame answer)
 unfolding sentOf
 sent-in-frame (opened team) = refl
 sent-in-frame (stepped team answer) = refl
 sent-in-frame (shown word answer) = refl
+sent-in-frame (viewing team n) = refl
 
 module _ (words : Words) (tickets : Tickets) (frame out : Bytes) where
   -- What went out: the number returned, and the output.
@@ -98,6 +100,7 @@ unfolding requestDone
 others-keep words tickets (Open other edit) team differs = getD-set-other (tickets .slots) other team (openedTicket edit) absentSlot differs
 others-keep words tickets (Step other) team differs = getD-set-other (tickets .slots) other team (stepOf words (ticketOf tickets other) other .0 .ticket) absentSlot differs
 others-keep words tickets (Look word) team differs = refl
+others-keep words tickets (View other n named) team differs = getD-set-other (tickets .slots) other team (openedView named) absentSlot differs
 
 keep-by : (refusal : Option ℕ) (words : Words) (tickets : Tickets) (request : Request) (team : ℕ) → (IsOf team request → ⊥) → ticketOf (refusedOr refusal words tickets request .tickets) team ≡ ticketOf tickets team
 keep-by none words tickets request team differs = others-keep words tickets request team differs

@@ -1,11 +1,10 @@
--- Demand 2: an edit opens its ticket, a step is one conditional swap, a look is one read; each is what the call's definition says.
+-- Demand 2: an edit or a view opens its ticket, a step is one conditional swap, a look is one read; each is what the call's definition says.
 use mathlib.Core.Path.{_≡_, refl, sym, ap, subst, _∙_}
 use mathlib.Core.Option.{none}
 use Rattle.words.specs.Words.{Words}
 use Rattle.tickets.specs.declared.Tickets.{Tickets}
 use Rattle.tickets.specs.Steps.{stepOf}
-use Rattle.frames.specs.declared.Request.{Request}
-use Rattle.frames.specs.declared.Request.the-variants.{Open, Step, Look}
+use Rattle.frames.specs.Request.{Request, Open, Step, Look, View}
 use Rattle.frames.specs.Numbers.{Bytes}
 use Rattle.frames.specs.Requests.{requestIn}
 use Rattle.frames.specs.Answers.{answerFrame}
@@ -17,6 +16,7 @@ unfolding requestDone stepOf
 request-does words tickets (Open team edit) = record { words-left = refl; tickets-left = refl; answered = refl }
 request-does words tickets (Step team) = record { words-left = refl; tickets-left = refl; answered = refl }
 request-does words tickets (Look word) = record { words-left = refl; tickets-left = refl; answered = refl }
+request-does words tickets (View team n named) = record { words-left = refl; tickets-left = refl; answered = refl }
 
 -- Its answer goes out in its frame.
 request-sent : (words : Words) (tickets : Tickets) (request : Request) → let answer = requestDone words tickets request .answer in sentOf answer ≡ bytes (answerFrame answer)
@@ -24,6 +24,7 @@ unfolding requestDone sentOf
 request-sent words tickets (Open team edit) = refl
 request-sent words tickets (Step team) = refl
 request-sent words tickets (Look word) = refl
+request-sent words tickets (View team n named) = refl
 
 -- A frame that is not refused does what its request does.
 not-refused : (words : Words) (tickets : Tickets) (frame out : Bytes) (request : Request) → refusalOf words tickets frame out ≡ none → requestIn frame ≡ request

@@ -11,7 +11,7 @@ use borrow.Author.Tests.{eq-eqb}
 use Rattle.words.specs.Tests.{allHold}
 use Rattle.words.specs.Words.{wordsInBook, readOf, markOf}
 use Rattle.tickets.specs.declared.Phase.{Phase}
-use Rattle.tickets.specs.declared.Phase.the-variants.{NoTicket, Claiming, Putting, GivingBack}
+use Rattle.tickets.specs.declared.Phase.the-variants.{NoTicket, Claiming, Putting, GivingBack, Viewing, Viewed}
 use Rattle.tickets.specs.declared.Ticket.{Ticket}
 use Rattle.tickets.specs.Tickets.{ticketOf, freshTickets, hasTicket}
 use Rattle.tickets.specs.Invariant.{Holds, FitSlot}
@@ -19,21 +19,23 @@ use Rattle.tickets.proofs.Keeping.{standing-fit}
 use Rattle.tickets.proofs.Opening.{holds-at-start}
 use Rattle.tickets.proofs.Looking.{unheld-plain}
 use Rattle.tickets.proofs.WellMade.{fit-well-made}
+use Rattle.edits.specs.declared.Edit.{Edit}
 use Rattle.frames.specs.Numbers.{Bytes, areBytes}
 use Rattle.plain.specs.Plain.{freshPlain, wordOf}
 use Rattle.plain.proofs.EditLaws.{fresh-is-sound}
 use Rattle.calls.specs.Call.{badlyMade, doneOf, callOf}
 use Rattle.calls.specs.Run.{Call, framed, OfBytes, Shared, fresh, heardOf, leftBy, answerHeard, runFrom, run}
-use Rattle.calls.specs.Order.{stale, decided, looked, Noted, Notes, noNotes, hearAnswer, notesFrom, notesOn, holds, holdsWord}
+use Rattle.calls.specs.Order.{stale, decided, looked, seen, Asked, anEdit, aView, Noted, Notes, noNotes, hearAnswer, notesFrom, notesOn, holds, holdsWord}
 use Rattle.calls.specs.Linearizable.{playFrom, play, grantedOf, FoundFits, DecidedAtMostOnce, StandingRight, Every, heardOn, Demand3}
 use Rattle.calls.specs.Demand1.{TableFits}
 use Rattle.calls.proofs.Tables.{tables-stay}
 use Rattle.calls.proofs.Hearing.{answers-heard}
-use Rattle.calls.proofs.Orders.{RightFrom, right-at}
-use Rattle.calls.proofs.Ordered.{Ordered}
+use Rattle.calls.proofs.Orders.{RightFrom, right-at, play-finished}
+use Rattle.calls.proofs.Ordered.{Ordered, finished-ordered}
 use Rattle.calls.proofs.Freshness.{fresh-words, fresh-legs, fresh-slots, fresh-table}
-use Rattle.calls.proofs.Tied.{HeardIn, Tied, known-stands, holds-heard, heard-holds}
-use Rattle.calls.proofs.Kept.{Good, call-kept}
+use Rattle.calls.proofs.Tied.{HeardIn, KnownAs, Tied, known-stands, holds-heard, heard-holds}
+use Rattle.calls.proofs.Turns.{Good}
+use Rattle.calls.proofs.Kept.{call-kept}
 
 -- At the start.
 fresh-ordered : Ordered []
@@ -47,6 +49,7 @@ fresh-good = record {
   agree = holds-at-start wordsInBook (ticketOf freshTickets) (wordOf freshPlain) fresh-slots (λ word below. fresh-words word);
   tied = fresh-slots;
   ordered = fresh-ordered;
+  places = λ team. tt;
   ends = tt;
   tries = tt;
   in-turn = refl;
@@ -86,23 +89,29 @@ well-made ticket slot = if-stands (hasTicket (ticket .phase)) refl
     if-stands true e = rw (e, fit-well-made ticket slot e) refl
     if-stands false e = rw e refl
 
--- A standing ticket is undecided while claiming, and decided once after that.
-phase-decided : (phase : Phase) (ticket : Ticket) (noted : Noted) → HeardIn phase ticket noted → DecidedAtMostOnce noted
-phase-decided NoTicket ticket noted heard = absurd heard
-phase-decided Claiming ticket noted heard = inl (heard .undecided, heard .not-found)
-phase-decided Putting ticket noted heard =
+-- An edit's ticket is undecided while claiming, and decided once after that; a view never is.
+phase-decided : (edit : Edit) (phase : Phase) (ticket : Ticket) (noted : Noted) → HeardIn edit phase ticket noted → DecidedAtMostOnce (anEdit edit) noted
+phase-decided edit NoTicket ticket noted heard = absurd heard
+phase-decided edit Claiming ticket noted heard = inl (heard .undecided)
+phase-decided edit Putting ticket noted heard =
     let decided = heard .decided in
     let decision = decided .decision in
-    inr (decision, decided .once, decided .right, subst (λ verdict. FoundFits noted decision verdict (noted .found)) (sym (decided .is)) (heard .not-found))
-phase-decided GivingBack ticket noted heard =
+    inr (decision, decided .once, decided .right, subst (λ verdict. FoundFits edit noted decision verdict (noted .found)) (sym (decided .is)) (heard .not-found))
+phase-decided edit GivingBack ticket noted heard =
     let decided = heard .decided in
     let decision = decided .decision in
-    let fits = subst (FoundFits noted decision stale) (sym (heard .found)) (heard .differed) in
-    inr (decision, decided .once, decided .right, subst (λ verdict. FoundFits noted decision verdict (noted .found)) (sym (decided .is)) fits)
+    let fits = subst (FoundFits edit noted decision stale) (sym (heard .found)) (heard .differed) in
+    inr (decision, decided .once, decided .right, subst (λ verdict. FoundFits edit noted decision verdict (noted .found)) (sym (decided .is)) fits)
+phase-decided edit Viewing ticket noted heard = absurd heard
+phase-decided edit Viewed ticket noted heard = absurd heard
+
+decided-as : (asked : Asked) (ticket : Ticket) (noted : Noted) → KnownAs asked ticket noted → DecidedAtMostOnce asked noted
+decided-as (anEdit edit) ticket noted known = phase-decided edit (ticket .phase) ticket noted (known .phase)
+decided-as (aView words) ticket noted known = known .undecided
 
 standing-right : (ticket : Ticket) (note : Option Noted) → Tied ticket note → StandingRight note
 standing-right ticket none absent = tt
-standing-right ticket (some noted) known = phase-decided (ticket .phase) ticket noted (known .phase)
+standing-right ticket (some noted) known = decided-as (noted .asked) ticket noted (known .rest)
 
 -- The book and tickets that a call leaves are those of what it does.
 left-kept : (shared : Shared) (n : Notes) → TableFits (shared .tickets) → Good shared n → (frame out : Bytes) → areBytes frame ≡ true
@@ -131,15 +140,18 @@ demand3 calls bytes =
     let good = run-good calls bytes in
     let shared = run calls .end in
     let n = notesOn (heardOn calls) in
+    -- the order without the places only reserved
+    let ordered = finished-ordered (n .order) (good .ordered) in
     record {
-      granted-succeed = λ before after verdict edit is. right-at freshPlain before after (decided verdict edit) (subst (RightFrom freshPlain) is (good .ordered .right));
-      looks-agree = λ before after word value is. right-at freshPlain before after (looked word value) (subst (RightFrom freshPlain) is (good .ordered .right));
-      words-agree = λ word inside unheld. unheld-agrees shared n good word inside unheld;
+      granted-succeed = λ before after verdict edit is. right-at freshPlain before after (decided verdict edit) (subst (RightFrom freshPlain) is (ordered .right));
+      looks-agree = λ before after word value is. right-at freshPlain before after (looked word value) (subst (RightFrom freshPlain) is (ordered .right));
+      views-agree = λ before after words values is. right-at freshPlain before after (seen words values) (subst (RightFrom freshPlain) is (ordered .right));
+      words-agree = λ word inside unheld. unheld-agrees shared n good word inside unheld ∙ ap (λ plain. wordOf plain word) (sym (play-finished freshPlain (n .order)));
       last-answers = good .ends;
       decided-once = λ team. standing-right (ticketOf (shared .tickets) team) (n .tickets team) (good .tied team);
-      counts-add-up = good .ordered .counts;
+      counts-add-up = ordered .counts;
       held-marked = λ team word held. held-mark shared n good team word held;
-      plain-sound = good .ordered .sound;
+      plain-sound = ordered .sound;
       stays-whole = ap not (eq-eqb _ _ (good .whole));
       stays-well-made = λ team. well-made (ticketOf (shared .tickets) team) (subst (λ size. FitSlot size (ticketOf (shared .tickets) team)) (good .whole) (good .agree .fit team));
       tries-add-up = good .tries;

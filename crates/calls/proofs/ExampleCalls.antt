@@ -4,25 +4,25 @@ use mathlib.Core.List.{List, [], _∷_, map}
 use mathlib.Core.Option.{Option}
 use lib.ListN.{replicate}
 use Rattle.legs.specs.declared.Measure.{Measure}
-use Rattle.frames.specs.declared.Request.{Request}
-use Rattle.frames.specs.declared.Request.the-variants.{Step}
+use Rattle.frames.specs.Request.{Request, Step}
 use Rattle.frames.specs.declared.Answer.{Answer}
+use Rattle.frames.specs.Numbers.{numbers64}
 use Rattle.frames.specs.Answers.{longestAnswer}
 use Rattle.frames.specs.Reading.{answerIn}
 use Rattle.frames.specs.Writing.{requestFrame}
 use Rattle.plain.specs.Plain.{Plain, NumberedLeg, findBelow, wordOf, legsBelow}
 use Rattle.plain.specs.Editing.{succeeds, perform, attempt}
 use Rattle.calls.specs.Run.{Call, framed, answerHeard, runFrom}
-use Rattle.calls.specs.Order.{notesFrom, holds}
+use Rattle.calls.specs.Order.{finished, notesFrom, holds}
 use Rattle.calls.specs.Linearizable.{playFrom, grantedOf, heardOn}
 use Rattle.calls.specs.Bench.{stations}
 use Rattle.calls.proofs.Computing.{everything}
 
 unfoldable pub everyRun : Unit {0}
-unfolding everything answerIn findBelow wordOf legsBelow succeeds perform attempt answerHeard runFrom notesFrom holds playFrom grantedOf
+unfolding everything numbers64 answerIn findBelow wordOf legsBelow succeeds perform attempt answerHeard runFrom finished notesFrom holds playFrom grantedOf
 everyRun = tt
 
--- A call for each request, with an output of 12 bytes.
+-- A call for each request, with an output of 52 bytes.
 abbrev pub calls : List Request → List Call
 calls requests = map (λ request. framed (requestFrame request) (replicate longestAnswer 0)) requests
 

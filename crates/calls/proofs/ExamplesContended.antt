@@ -10,7 +10,7 @@ use Rattle.tickets.specs.declared.LookAnswer.the-variants.{Value, Held}
 use Rattle.edits.specs.declared.Edit.{Edit}
 use Rattle.edits.specs.declared.Edit.the-variants.{Add}
 use Rattle.frames.specs.declared.Answer.the-variants as Answer
-use Rattle.frames.specs.declared.Request.the-variants.{Open, Step, Look}
+use Rattle.frames.specs.Request.{Open, Step, Look}
 use Rattle.plain.specs.Plain.{freshPlain}
 use Rattle.calls.specs.Run.{Call}
 use Rattle.calls.specs.Order.{granted, stale, Event, decided, looked, Last, wasGranted, wasStale, Ended, ended, holds, notesOn}

@@ -12,8 +12,7 @@ use Rattle.tickets.specs.declared.LookAnswer.the-variants.{Value, Held}
 use Rattle.edits.specs.declared.Edit.{Edit}
 use Rattle.edits.specs.declared.Edit.the-variants.{Add, Correct, Strike, Move}
 use Rattle.frames.specs.declared.Answer.the-variants as Answer
-use Rattle.frames.specs.declared.Request.{Request}
-use Rattle.frames.specs.declared.Request.the-variants.{Open, Step, Look}
+use Rattle.frames.specs.Request.{Request, Open, Step, Look}
 use Rattle.plain.specs.Plain.{Plain, legsInBook}
 use Rattle.plain.specs.Editing.{addsIn, strikesIn}
 use Rattle.calls.specs.Order.{granted, stale, Event, decided, looked, holds}

@@ -3,7 +3,7 @@ use mathlib.Core.Path.{_≡_, refl}
 use mathlib.Core.List.{List, [], _∷_, _++_, map}
 use lib.ListN.{take, drop, replicate}
 use Rattle.tickets.specs.declared.StepAnswer.the-variants.{Claimed}
-use Rattle.frames.specs.declared.Request.the-variants.{Open, Step}
+use Rattle.frames.specs.Request.{Open, Step}
 use Rattle.frames.specs.declared.Answer.the-variants.{Standing, Refused}
 use Rattle.frames.specs.declared.Answer.the-variants as Answer
 use Rattle.frames.specs.Numbers.{Bytes}

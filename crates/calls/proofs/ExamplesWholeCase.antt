@@ -4,7 +4,7 @@ use mathlib.Core.Path.{_≡_, refl}
 use mathlib.Core.Bool.{Bool, true, false}
 use mathlib.Core.List.{List, [], _∷_, _++_}
 use lib.ListN.{replicate, take}
-use Rattle.frames.specs.declared.Request.the-variants.{Open}
+use Rattle.frames.specs.Request.{Open}
 use Rattle.frames.specs.Answers.{longestAnswer}
 use Rattle.frames.specs.Writing.{requestFrame}
 use Rattle.plain.specs.Plain.{Plain}

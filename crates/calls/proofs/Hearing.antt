@@ -10,8 +10,7 @@ use lib.Seq.{take-append-seam, drop-append-seam}
 use borrow.Author.Tests.{lt-ltb, le-ltb}
 use Rattle.words.specs.Words.{Words}
 use Rattle.tickets.specs.declared.Tickets.{Tickets}
-use Rattle.frames.specs.declared.Request.{Request}
-use Rattle.frames.specs.declared.Request.the-variants.{Open, Step, Look}
+use Rattle.frames.specs.Request.{Request, Open, Step, Look, View}
 use Rattle.frames.specs.Requests.{requestIn}
 use Rattle.frames.proofs.Ranges.{within-in, within-above}
 use Rattle.frames.specs.declared.Answer.{Answer}
@@ -79,6 +78,7 @@ unfolding requestDone
 request-numbered words tickets (Open team edit) = tt
 request-numbered words tickets (Step team) = tt
 request-numbered words tickets (Look word) = tt
+request-numbered words tickets (View team n named) = tt
 
 numbered : (words : Words) (tickets : Tickets) (frame out : Bytes) → Numbered (doneOf words tickets frame out .answer)
 unfolding doneOf

@@ -17,6 +17,9 @@ pub mod Ordered
 pub mod Passing
 pub mod Freshness
 pub mod Tied
+pub mod Turns
+pub mod EditSteps
+pub mod ViewSteps
 pub mod Kept
 pub mod Demand3
 mod Computing
@@ -27,3 +30,4 @@ mod ExamplesWholeCase
 mod ExamplesContended
 mod ExamplesMoves
 mod ExamplesPieces
+mod ExamplesViews

@@ -10,14 +10,14 @@ use Rattle.tickets.specs.declared.Tickets.{Tickets}
 use Rattle.tickets.specs.Tickets.{ticketOf, hasTicket}
 use Rattle.edits.specs.declared.Edit.{Edit}
 use Rattle.edits.specs.Ranges.{editInRange, editRepeats, editAllowed}
-use Rattle.frames.specs.declared.Request.{Request}
-use Rattle.frames.specs.declared.Request.the-variants.{Open, Step, Look}
+use Rattle.edits.specs.Views.{FineView}
+use Rattle.frames.specs.Request.{Request, Open, Step, Look, View}
 use Rattle.frames.specs.Numbers.{Bytes, areBytes}
 use Rattle.frames.specs.Requests.{requestIn}
 use Rattle.frames.proofs.Asked.{stations-fit}
 use Rattle.frames.specs.Fields.{fieldOutOfRange, fieldRepeated}
-use Rattle.calls.specs.Call.{refusalOf, teamUnknown, editWithTicket, stepWithoutTicket}
-use Rattle.calls.proofs.Refusing.{passed}
+use Rattle.calls.specs.Call.{refusalOf, teamUnknown, opensOverTicket, stepWithoutTicket}
+use Rattle.calls.proofs.Refusing.{passed, Sized, request-sized, fine-view}
 use Rattle.calls.proofs.Ordered.{Fine}
 
 -- An edit that neither 10 nor 11 refuses is allowed.
@@ -25,21 +25,24 @@ allowed : (edit : Edit) → editInRange edit ≡ true → editRepeats edit ≡ f
 unfolding allHold
 allowed edit in-range once = rw (in-range, once) refl
 
--- Its team is one of the sixteen, has no ticket or has one as asked for, its edit is fine, its word is one of the book's.
+-- Its team is one of the sixteen, has no ticket or has one as asked for, its edit or its view is fine, its word is one of the book's.
 abbrev pub Passes : Tickets → Request → Type 0
 Passes tickets (Open team edit) = (team < teamCount) × (hasTicket (ticketOf tickets team .phase) ≡ false) × Fine edit
 Passes tickets (Step team) = (team < teamCount) × (hasTicket (ticketOf tickets team .phase) ≡ true)
 Passes tickets (Look word) = word < wordsInBook
+Passes tickets (View team n words) = (team < teamCount) × (hasTicket (ticketOf tickets team .phase) ≡ false) × FineView words
 
 module _ (words : Words) (tickets : Tickets) (frame out : Bytes) (bytes : areBytes frame ≡ true) where
   pub passes : refusalOf words tickets frame out ≡ none → Passes tickets (requestIn frame)
   passes none-given =
       let known = passed words tickets frame out none-given in
-      of-request (requestIn frame) refl (known .known-team) (known .edit-alone) (known .step-allowed) (known .in-range) (known .named-once)
+      of-request (requestIn frame) refl (known .known-team) (known .opens-alone) (known .step-allowed) (known .in-range) (known .named-once) (request-sized known)
     where
-      of-request : (request : Request) → requestIn frame ≡ request → teamUnknown request ≡ false → editWithTicket tickets request ≡ false
-          → stepWithoutTicket tickets request ≡ false → fieldOutOfRange request ≡ false → fieldRepeated request ≡ false → Passes tickets request
-      of-request (Open team edit) is known no-ticket ticket in-range once =
+      of-request : (request : Request) → requestIn frame ≡ request → teamUnknown request ≡ false → opensOverTicket tickets request ≡ false
+          → stepWithoutTicket tickets request ≡ false → fieldOutOfRange request ≡ false → fieldRepeated request ≡ false → Sized request → Passes tickets request
+      of-request (Open team edit) is known no-ticket ticket in-range once sized =
           (ltb-true team teamCount (not-false _ known), no-ticket, record { allowed = allowed edit (not-false _ in-range) once; stations = stations-fit frame team edit bytes is })
-      of-request (Step team) is known no-ticket ticket in-range once = (ltb-true team teamCount (not-false _ known), not-false _ ticket)
-      of-request (Look word) is known no-ticket ticket in-range once = ltb-true word wordsInBook (not-false _ in-range)
+      of-request (Step team) is known no-ticket ticket in-range once sized = (ltb-true team teamCount (not-false _ known), not-false _ ticket)
+      of-request (Look word) is known no-ticket ticket in-range once sized = ltb-true word wordsInBook (not-false _ in-range)
+      of-request (View team n named) is known no-ticket ticket in-range once sized =
+          (ltb-true team teamCount (not-false _ known), no-ticket, fine-view n named sized (not-false _ in-range) once)

@@ -15,11 +15,11 @@ use Rattle.tickets.specs.Tickets.{freshTickets, withTicket}
 use Rattle.edits.specs.declared.Edit.{Edit}
 use Rattle.edits.specs.declared.Edit.the-variants.{Add}
 use Rattle.edits.specs.Opened.{openedTicket}
-use Rattle.frames.specs.declared.Request.the-variants.{Open, Step, Look}
+use Rattle.frames.specs.Request.{Open, Step, Look, View}
 use Rattle.frames.specs.declared.Answer.the-variants.{Refused}
 use Rattle.frames.specs.Numbers.{Bytes}
 use Rattle.frames.specs.Writing.{requestFrame}
-use Rattle.frames.specs.Answers.{answerFrame}
+use Rattle.frames.specs.Answers.{answerFrame, longestAnswer}
 use Rattle.calls.specs.Call.{refusalOf, callOf}
 use Rattle.calls.specs.Survey.{surveyOf}
 use Rattle.calls.specs.Bench.{stations, thatMeasure, measured}
@@ -29,7 +29,7 @@ abbrev book : Words
 book = replicate wordsInBook 0
 
 abbrev out : Bytes
-out = replicate 12 7
+out = replicate longestAnswer 7
 
 -- A damaged ticket: of seven targets; or one that gives back as many as it has.
 abbrev damaged : Phase → ℕ → ℕ → Ticket
@@ -66,9 +66,9 @@ bothFaults = adding sameStations (measured 5000 (pos 9001))
 -- 1 to 6, in checking order: each call breaks the next rule too.
 refusals-1-to-6 :
     refusalOf (replicate 4095 0) freshTickets [] []
-    ∷ refusalOf book freshTickets [] (replicate 11 7)
-    ∷ refusalOf book freshTickets (4 ∷ 0 ∷ 7 ∷ 0 ∷ 0 ∷ []) out
-    ∷ refusalOf book freshTickets (5 ∷ 0 ∷ 7 ∷ 0 ∷ 16 ∷ 0 ∷ 0 ∷ []) out
+    ∷ refusalOf book freshTickets [] (replicate 51 7)
+    ∷ refusalOf book freshTickets (4 ∷ 0 ∷ 8 ∷ 0 ∷ 0 ∷ []) out
+    ∷ refusalOf book freshTickets (5 ∷ 0 ∷ 8 ∷ 0 ∷ 16 ∷ 0 ∷ 0 ∷ []) out
     ∷ refusalOf book freshTickets (5 ∷ 0 ∷ 5 ∷ 0 ∷ 16 ∷ 0 ∷ 0 ∷ []) out
     ∷ refusalOf book freshTickets (requestFrame (Step 16)) out
     ∷ []
@@ -98,8 +98,25 @@ refusals-10-and-11 :
 unfolding everything
 refusals-10-and-11 = refl
 
+-- A view, likewise: of no word, of seven words, and of half a word (5); of team 16; over a damaged ticket, and over another; an n that is not the count of words, before a word above 4,095 and a word twice; that word alone; a word twice; and no refusal.
+views-refused :
+    refusalOf book freshTickets (requestFrame (View 16 0 [])) out
+    ∷ refusalOf book freshTickets (requestFrame (View 16 7 (1 ∷ 2 ∷ 3 ∷ 4 ∷ 5 ∷ 6 ∷ 7 ∷ []))) out
+    ∷ refusalOf book freshTickets (9 ∷ 0 ∷ 7 ∷ 0 ∷ 16 ∷ 0 ∷ 1 ∷ 0 ∷ 3 ∷ 0 ∷ 4 ∷ []) out
+    ∷ refusalOf book freshTickets (requestFrame (View 16 1 (3 ∷ []))) out
+    ∷ refusalOf book (withTicket freshTickets 0 sevenTargets) (requestFrame (View 0 2 (4096 ∷ []))) out
+    ∷ refusalOf book (withTicket freshTickets 0 (openedTicket repeats)) (requestFrame (View 0 2 (4096 ∷ []))) out
+    ∷ refusalOf book freshTickets (requestFrame (View 0 1 (3 ∷ 3 ∷ []))) out
+    ∷ refusalOf book freshTickets (requestFrame (View 0 3 (4096 ∷ 3 ∷ 3 ∷ []))) out
+    ∷ refusalOf book freshTickets (requestFrame (View 0 2 (3 ∷ 3 ∷ []))) out
+    ∷ refusalOf book freshTickets (requestFrame (View 15 6 (4095 ∷ 0 ∷ 3 ∷ 2 ∷ 63 ∷ 64 ∷ []))) out
+    ∷ []
+    ≡ map some (5 ∷ 5 ∷ 5 ∷ 6 ∷ 7 ∷ 8 ∷ 10 ∷ 10 ∷ 11 ∷ []) ++ (none ∷ [])
+unfolding everything
+views-refused = refl
+
 -- A refusal writes six bytes, and the rest of the output stays; 1 and 2 return their number and write nothing.
-refused-bytes : callOf book freshTickets (requestFrame (Step 1)) out .2 ≡ answerFrame (Refused 9) ++ replicate 6 7
+refused-bytes : callOf book freshTickets (requestFrame (Step 1)) out .2 ≡ answerFrame (Refused 9) ++ replicate 46 7
 unfolding everything
 refused-bytes = refl
 
@@ -107,11 +124,11 @@ no-book : callOf [] freshTickets [] out ≡ (record { written = 1; tickets = fre
 unfolding everything
 no-book = refl
 
-short-output : callOf book freshTickets (requestFrame (Step 1)) (replicate 11 7) .2 ≡ replicate 11 7
+short-output : callOf book freshTickets (requestFrame (Step 1)) (replicate 51 7) .2 ≡ replicate 51 7
 unfolding everything
 short-output = refl
 
-short-returns : callOf book freshTickets (requestFrame (Step 1)) (replicate 11 7) .0 .written ≡ 2
+short-returns : callOf book freshTickets (requestFrame (Step 1)) (replicate 51 7) .0 .written ≡ 2
 unfolding everything
 short-returns = refl
 

@@ -1,20 +1,26 @@
--- The first test that applies is given, and none otherwise: its number is 1 to 11, and where none applies, each test fails.
-use Prim.Native.Nat.{ℕ, suc, _+_, _≤_, _<_}
-use mathlib.Core.Path.{_≡_, refl}
-use mathlib.Core.Bool.{Bool, true, false, not, false≢true}
+-- The first test that applies is given, and none otherwise: its number is 1 to 11, and where none applies, each test fails; what that says of the frame and of the words that a view names.
+use Prim.Native.Nat.{ℕ, zero, suc, _+_, _-_, _/_, _≤_, _<_}
+use mathlib.Core.Path.{_≡_, refl, ap}
+use mathlib.Core.Bool.{Bool, true, false, cond, not, false≢true, true≢false}
 use mathlib.Core.List.{List, [], _∷_}
 use mathlib.Core.Option.{Option, none, some}
 use native.Mathlib.Omega.{arith}
+use borrow.Author.Tests.{leb-true, ltb-false, eqb-true, not-false}
+use lib.Dec.{eqb, leb, ltb}
 use lib.ListN.{length}
-use Rattle.words.specs.Words.{Words}
-use Rattle.words.proofs.Tests.{join}
+use Rattle.words.specs.Tests.{someHolds}
+use Rattle.words.specs.Words.{Words, mostTargets}
+use Rattle.words.proofs.Tests.{split, join}
 use Rattle.tickets.specs.declared.Ticket.{Ticket}
 use Rattle.tickets.specs.declared.Tickets.{Tickets}
 use Rattle.tickets.specs.Tickets.{hasTicket, wellMade}
-use Rattle.frames.specs.Numbers.{Bytes}
-use Rattle.frames.specs.Requests.{requestIn}
-use Rattle.frames.specs.Fields.{frameTorn, kindUnknown, lengthWrong, fieldOutOfRange, fieldRepeated}
-use Rattle.calls.specs.Call.{bookLengthWrong, outputShort, teamUnknown, badlyMade, ownTicketBadlyMade, editWithTicket, stepWithoutTicket, refusalTests, firstFrom, refusalOf}
+use Rattle.edits.specs.Views.{allInBook, viewInRange, viewRepeats, FineView}
+use Rattle.frames.specs.Request.{Request, Open, Step, Look, View}
+use Rattle.frames.specs.Numbers.{Bytes, number16, numbers16}
+use Rattle.frames.specs.Requests.{lengthField, kindField, headBytes, partAfterKind, addKind, stepKind, lookKind, viewKind, lengthOfKind, teamIn, editOfKind, viewWordsIn, requestOfKind, requestIn}
+use Rattle.frames.specs.Fields.{longestFrame, frameTorn, kindUnknown, lengthWrong, ViewFields, FieldsOf, Whole, fieldOutOfRange, fieldRepeated}
+use Rattle.frames.proofs.Headers.{whole}
+use Rattle.calls.specs.Call.{bookLengthWrong, outputShort, teamUnknown, badlyMade, ownTicketBadlyMade, opensOverTicket, stepWithoutTicket, refusalTests, firstFrom, refusalOf}
 
 -- A number given is that of one of the tests,
 abbrev pub Among : ℕ → ℕ → Option ℕ → Type 0
@@ -57,7 +63,7 @@ pub record Passed (words : Words) (tickets : Tickets) (frame out : Bytes) : Type
   pub due-length : lengthWrong frame ≡ false
   pub known-team : teamUnknown (requestIn frame) ≡ false
   pub well-made : ownTicketBadlyMade tickets (requestIn frame) ≡ false
-  pub edit-alone : editWithTicket tickets (requestIn frame) ≡ false
+  pub opens-alone : opensOverTicket tickets (requestIn frame) ≡ false
   pub step-allowed : stepWithoutTicket tickets (requestIn frame) ≡ false
   pub in-range : fieldOutOfRange (requestIn frame) ≡ false
   pub named-once : fieldRepeated (requestIn frame) ≡ false
@@ -74,11 +80,70 @@ passed words tickets frame out none-given =
       due-length = cc;
       known-team = cc;
       well-made = cc;
-      edit-alone = cc;
+      opens-alone = cc;
       step-allowed = cc;
       in-range = cc;
       named-once = cc;
     }
+
+-- Where none of three tests holds, each fails.
+pub tests-fail : (first second third : Bool) → someHolds (first ∷ second ∷ third ∷ []) ≡ false → (first ≡ false) × (second ≡ false) × (third ≡ false)
+unfolding someHolds
+tests-fail true second third fails = absurd (true≢false fails)
+tests-fail false true third fails = absurd (true≢false fails)
+tests-fail false false true fails = absurd (true≢false fails)
+tests-fail false false false fails = (refl, refl, refl)
+
+-- A frame that 3, 4 and 5 do not refuse is whole.
+frame-whole : (frame : Bytes) → frameTorn frame ≡ false → kindUnknown frame ≡ false → lengthWrong frame ≡ false → Whole frame (kindField frame)
+frame-whole frame torn unknown wrong =
+    let (short, long, other) = tests-fail (ltb (length frame) headBytes) (ltb longestFrame (length frame)) (not (eqb (lengthField frame + 2) (length frame))) torn in
+    let (first, (last, u)) = split (leb addKind (kindField frame) ∷ leb (kindField frame) viewKind ∷ []) (not-false _ unknown) in
+    whole frame (lengthField frame) (kindField frame) (leb-true _ _ first) (leb-true _ _ last) (ltb-false _ _ short) (eqb-true _ _ (not-false _ other)) (not-false _ wrong)
+
+-- The words that a view's fields name are one to six.
+length-numbers : (many : ℕ) (bytes : Bytes) (at : ℕ) → length (numbers16 many bytes at) ≡ many
+unfolding numbers16
+length-numbers zero bytes at = refl
+length-numbers (suc many) bytes at = ap suc (length-numbers many bytes (at + 2))
+
+abbrev pub OneToSix : List ℕ → Type 0
+OneToSix words = (1 ≤ length words) × (length words ≤ mostTargets)
+
+pub named-many : (part : Bytes) → ViewFields part → OneToSix (viewWordsIn part)
+named-many part fields =
+    let many = length-numbers ((length part - 4) / 2) part 4 in
+    (omega (arith, many, fields .least, fields .long), omega (arith, many, fields .most, fields .long))
+
+-- So it is of every request that is not refused.
+abbrev pub Sized : Request → Type 0
+Sized (Open team edit) = Unit {0}
+Sized (Step team) = Unit {0}
+Sized (Look word) = Unit {0}
+Sized (View team n words) = OneToSix words
+
+kind-sized : (kind : ℕ) (part : Bytes) → FieldsOf kind part → Sized (requestOfKind kind part)
+unfolding requestOfKind
+kind-sized kind part fields = by (eqb kind stepKind) (eqb kind lookKind) (eqb kind viewKind) fields
+  where
+    by : (step look view : Bool) → cond view (ViewFields part) (length part ≡ lengthOfKind kind - 2)
+        → Sized (cond step (Step (teamIn part)) (cond look (Look (number16 part 0))
+        (cond view (View (teamIn part) (number16 part 2) (viewWordsIn part)) (Open (teamIn part) (editOfKind kind part)))))
+    by true look view fields = tt
+    by false true view fields = tt
+    by false false true fields = named-many part fields
+    by false false false fields = tt
+
+pub request-sized : {words : Words} {tickets : Tickets} {frame out : Bytes} → Passed words tickets frame out → Sized (requestIn frame)
+unfolding requestIn
+request-sized {frame = frame} known = kind-sized (kindField frame) (partAfterKind frame) (frame-whole frame (known .whole-frame) (known .known-kind) (known .due-length) .fields)
+
+-- A view that neither 5, 10 nor 11 refuses is fine.
+pub fine-view : (n : ℕ) (words : List ℕ) → OneToSix words → viewInRange n words ≡ true → viewRepeats words ≡ false → FineView words
+unfolding viewInRange viewRepeats
+fine-view n words many in-range once =
+    let (counted, (inside, u)) = split (eqb n (length words) ∷ allInBook words ∷ []) in-range in
+    record { least = many .0; most = many .1; inside = inside; once = not-false _ once }
 
 -- A standing ticket that is not badly made is well made.
 pub standing-made : (ticket : Ticket) → hasTicket (ticket .phase) ≡ true → badlyMade ticket ≡ false → wellMade ticket ≡ true

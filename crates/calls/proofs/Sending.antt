@@ -2,6 +2,7 @@
 use Prim.Native.Nat.{ℕ, _≤_, _<_}
 use mathlib.Core.Path.{_≡_, refl, sym, ap, subst, _∙_}
 use mathlib.Core.Bool.{Bool, true, false, cond, not}
+use mathlib.Core.List.{List, []}
 use mathlib.Core.Logic.{inl, inr}
 use mathlib.Core.Option.{some}
 use native.Mathlib.Omega.{arith}
@@ -15,22 +16,24 @@ use Rattle.tickets.specs.Tickets.{ticketOf, withTicket, hasTicket, wellMade}
 use Rattle.tickets.specs.Steps.{stepOf, lookOf}
 use Rattle.edits.specs.declared.Edit.{Edit}
 use Rattle.edits.specs.Ranges.{editInRange, editRepeats}
+use Rattle.edits.specs.Views.{viewInRange, viewRepeats}
 use Rattle.frames.specs.declared.Answer.{Answer}
 use Rattle.frames.specs.declared.Answer.the-variants as Answer
 use Rattle.frames.specs.declared.Header.{Header}
 use Rattle.frames.specs.declared.Header.the-variants as Header
 use Rattle.frames.specs.declared.EditRead.the-variants as EditRead
+use Rattle.frames.specs.declared.Reading.the-variants as Reading
 use Rattle.frames.specs.Numbers.{Bytes, number16}
-use Rattle.frames.specs.Requests.{partAfterKind, stepKind, lookKind, teamIn, editOfKind}
+use Rattle.frames.specs.Requests.{partAfterKind, stepKind, lookKind, viewKind, teamIn, editOfKind, viewWordsIn}
 use Rattle.frames.specs.Answers.{answerFrame, longestAnswer, written}
-use Rattle.frames.specs.Fields.{headerOf, editRead}
+use Rattle.frames.specs.Fields.{headerOf, editRead, readAs, viewRead}
 use Rattle.frames.proofs.Headers.{refused-tests}
 use Rattle.calls.specs.declared.Aim.{Aim}
 use Rattle.calls.specs.declared.Aim.the-variants as Aim
 use Rattle.calls.specs.declared.Settled.{Settled}
 use Rattle.calls.specs.declared.Reply.{Reply}
 use Rattle.calls.specs.Call.{refusalTests, refusalOf, Done, done, refusedOr, doneOf, Sent, number, bytes, sentOf, writtenBy, callOf}
-use Rattle.calls.specs.Way.{aimBy, aimOf, slotOf, settled, lookSettled, openSettled, stepSettled, teamSettled, settledBy, wayDone, wayOf}
+use Rattle.calls.specs.Way.{aimBy, aimOf, slotOf, settled, lookSettled, openSettled, viewSettled, stepSettled, anewSettled, teamSettled, settledBy, wayDone, wayOf}
 use Rattle.calls.proofs.Way.{way-is-call}
 
 -- An answer that goes out as a frame: any but refusals 1 and 2.
@@ -87,6 +90,26 @@ open-framed ticket edit = go (editInRange edit) (editRepeats edit)
     go true false = tt
     go false repeats = lit≤ tt
 
+view-framed : (ticket : Ticket) (n : ℕ) (words : List ℕ) → Framed (viewSettled ticket (viewRead n words) .answer)
+unfolding viewSettled viewRead
+view-framed ticket n words = go (viewInRange n words) (viewRepeats words)
+  where
+    go : (range repeats : Bool) → Framed (viewSettled ticket (cond range (cond repeats (readAs (Reading.Refused 11) []) (readAs Reading.Is words)) (readAs (Reading.Refused 10) [])) .answer)
+    go true true = lit≤ tt
+    go true false = tt
+    go false repeats = lit≤ tt
+
+anew-framed : (words : Words) (ticket : Ticket) (part : Bytes) (kind team : ℕ) → Framed (anewSettled words ticket part kind team .0 .answer)
+unfolding anewSettled
+anew-framed words ticket part kind team = go (eqb kind stepKind) (eqb kind viewKind)
+  where
+    go : (step view : Bool)
+        → Framed ((cond {A = Settled × Words} step (stepSettled (stepOf words ticket team))
+        (cond view (viewSettled ticket (viewRead (number16 part 2) (viewWordsIn part)), words) (openSettled ticket (editRead (editOfKind kind part)), words))) .0 .answer)
+    go true view = tt
+    go false true = view-framed ticket (number16 part 2) (viewWordsIn part)
+    go false false = open-framed ticket (editOfKind kind part)
+
 team-framed : (words : Words) (ticket : Ticket) (part : Bytes) (kind team : ℕ) → Framed (teamSettled words ticket part kind team .0 .answer)
 unfolding teamSettled
 team-framed words ticket part kind team = go (hasTicket (ticket .phase)) (wellMade ticket) (eqb kind stepKind)
@@ -94,12 +117,12 @@ team-framed words ticket part kind team = go (hasTicket (ticket .phase)) (wellMa
     go : (stands made step : Bool)
         → Framed ((cond {A = Settled × Words} stands
         (cond made (cond step (stepSettled (stepOf words ticket team)) (settled ticket (Answer.Refused 8), words)) (settled ticket (Answer.Refused 7), words))
-        (cond step (settled ticket (Answer.Refused 9), words) (openSettled ticket (editRead (editOfKind kind part)), words))) .0 .answer)
+        (cond step (settled ticket (Answer.Refused 9), words) (anewSettled words ticket part kind team))) .0 .answer)
     go true true true = tt
     go true true false = lit≤ tt
     go true false step = lit≤ tt
     go false made true = lit≤ tt
-    go false made false = open-framed ticket (editOfKind kind part)
+    go false made false = anew-framed words ticket part kind team
 
 settled-framed : (words : Words) (ticket : Ticket) (frame : Bytes) (aim : Aim) → FramedAim aim → Framed (settledBy words ticket frame aim .0 .answer)
 unfolding settledBy FramedAim

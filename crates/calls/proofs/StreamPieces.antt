@@ -50,7 +50,7 @@ run-written shared (frame ∷ frames) later =
     ap (λ (bytes : Bytes). own ++ bytes) (run-written left frames later)
     ∙ sym (append-assoc own (allWritten (runOn left frames .heard)) (allWritten (runOn (runOn left frames .end) later .heard)))
 
--- A run keeps the book's length, and writes at most twelve bytes for each two that it read.
+-- A run keeps the book's length, and writes at most 52 bytes for each two that it read.
 run-length : (words : Words) (tickets : Tickets) (frames : List Bytes) → length words ≡ wordsInBook → length (runOn (sharing words tickets) frames .end .book) ≡ wordsInBook
 unfolding runFrom
 run-length words tickets [] whole = whole

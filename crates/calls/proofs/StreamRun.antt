@@ -14,8 +14,7 @@ use Rattle.words.specs.Words.{Words, wordsInBook}
 use Rattle.tickets.specs.declared.Tickets.{Tickets}
 use Rattle.tickets.specs.Tickets.{ticketOf}
 use Rattle.tickets.proofs.Stepping.{length-kept}
-use Rattle.frames.specs.declared.Request.{Request}
-use Rattle.frames.specs.declared.Request.the-variants.{Open, Step, Look}
+use Rattle.frames.specs.Request.{Request, Open, Step, Look, View}
 use Rattle.frames.specs.Numbers.{Bytes, number16}
 use Rattle.frames.specs.Requests.{lengthField, requestIn}
 use Rattle.frames.specs.Answers.{answerFrame, longestAnswer}
@@ -42,6 +41,7 @@ unfolding requestDone
 request-length words tickets (Open team edit) = refl
 request-length words tickets (Step team) = length-kept words (ticketOf tickets team) team
 request-length words tickets (Look word) = refl
+request-length words tickets (View team n named) = refl
 
 refused-length : (refusal : Option ℕ) (words : Words) (tickets : Tickets) (request : Request) → length (refusedOr refusal words tickets request .words) ≡ length words
 refused-length none words tickets request = request-length words tickets request

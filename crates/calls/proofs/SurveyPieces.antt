@@ -24,6 +24,7 @@ use Rattle.calls.specs.Linearizable.{Every}
 use Rattle.calls.specs.Survey.{longestField, torn, firstFrame, afterFirstFrame, surveyOf, framesFrom, framesIn, joined, allWritten, restOf, atEnd}
 use Rattle.calls.specs.Stream.{WholeFrame, StartsWhole, StopRight, runOn, Roomy}
 use Rattle.calls.specs.Pieces.{goesOn, Between, beginning, inputOf, turnOf, afterTurn, piecesFrom, RoomEachTurn, PiecesAreSurvey, PiecesHaveRoom}
+use Rattle.calls.proofs.Refusing.{tests-fail}
 use Rattle.calls.proofs.StreamRun.{stream-is-run}
 use Rattle.calls.proofs.StreamPieces.{joined-append, every-append, run-written, one-split, rest-none, wrote, left-length, room-suffices}
 use Rattle.calls.proofs.SurveyRun.{survey-is-run}
@@ -132,13 +133,6 @@ in-pieces (piece ∷ later) before whole none-starts roomy =
 starts-not-torn : (input : Bytes) → StartsWhole input → torn input ≡ false
 unfolding someHolds
 starts-not-torn input starts = rw (le-ltb (length input) 2 (starts .0), le-ltb longestField (lengthField input) (starts .1), le-ltb (length input) (lengthField input + 2) (omega (arith, starts .2)))
-
-tests-fail : (first second third : Bool) → someHolds (first ∷ second ∷ third ∷ []) ≡ false → (first ≡ false) × (second ≡ false) × (third ≡ false)
-unfolding someHolds
-tests-fail true second third none = absurd (true≢false none)
-tests-fail false true third none = absurd (true≢false none)
-tests-fail false false true none = absurd (true≢false none)
-tests-fail false false false none = (refl, refl, refl)
 
 first-whole : (input : Bytes) → torn input ≡ false → WholeFrame (firstFrame input)
 first-whole input is-whole =

@@ -13,24 +13,27 @@ use borrow.Author.Tests.{lt-ltb, le-ltb}
 use Rattle.words.specs.Words.{Words, isHeld, mostTargets, teamCount}
 use Rattle.tickets.specs.declared.Target.{Target}
 use Rattle.tickets.specs.declared.Phase.{Phase}
-use Rattle.tickets.specs.declared.Phase.the-variants.{NoTicket, Claiming, Putting, GivingBack}
+use Rattle.tickets.specs.declared.Phase.the-variants.{NoTicket, Claiming, Putting, GivingBack, Viewing, Viewed}
 use Rattle.tickets.specs.declared.Ticket.{Ticket}
 use Rattle.tickets.specs.declared.Tickets.{Tickets}
 use Rattle.tickets.specs.declared.StepAnswer.{StepAnswer}
-use Rattle.tickets.specs.declared.StepAnswer.the-variants.{Found, Put, Returned, Granted, Stale}
-use Rattle.tickets.specs.Tickets.{noTicket, absentSlot, targetAt, ticketOf, withTicket}
-use Rattle.tickets.specs.Steps.{mostTries, oneMoreTry, advanced, stepped, claimed, waited, differed, givenBack, settledIn, settled, stepOf}
+use Rattle.tickets.specs.declared.StepAnswer.the-variants.{Found, Put, Returned, Granted, Stale, Seen}
+use Rattle.tickets.specs.Tickets.{target, noTicket, absentSlot, targetAt, ticketOf, withTicket, padded}
+use Rattle.tickets.specs.Steps.{mostTries, oneMoreTry, advanced, stepped, claimed, waited, differed, givenBack, noting, viewClaimed, viewWaited, valuesSeen, settledIn, settled, stepOf}
 use Rattle.tickets.proofs.Stepping.{foundBy}
 use Rattle.edits.specs.declared.Edit.{Edit}
 use Rattle.edits.specs.declared.Edit.the-variants as Edit
-use Rattle.edits.specs.Opened.{padded, storedTargets, targetCount, openedTicket}
+use Rattle.edits.specs.Opened.{storedTargets, targetCount, openedTicket}
 use Rattle.edits.specs.Ordering.{listedCount}
+use Rattle.edits.specs.Views.{viewTargets, openedView}
+use Rattle.edits.proofs.Order.{length-permuted, ordered-permuted}
 use Rattle.edits.proofs.Stored.{targets-counted}
-use Rattle.frames.specs.declared.Request.{Request}
-use Rattle.frames.specs.declared.Request.the-variants.{Open, Step, Look}
+use Rattle.legs.specs.Positions.{positionOf}
+use Rattle.frames.specs.Request.{Request, Open, Step, Look, View}
 use Rattle.frames.specs.Requests.{requestIn}
 use Rattle.calls.specs.Call.{refusalOf, requestDone, refusedOr, doneOf, callOf}
 use Rattle.calls.specs.Demand1.{SlotFits, TableFits, TablesStay}
+use Rattle.calls.proofs.Refusing.{passed, Sized, request-sized}
 
 -- Tries stay in 32 bits.
 pub one-more-fits : (tries : ℕ) → tries ≤ mostTries → oneMoreTry tries ≤ mostTries
@@ -42,16 +45,24 @@ one-more-fits tries fits = elim (decLt tries mostTries) [
 no-ticket-fits : SlotFits noTicket
 no-ticket-fits = record { words = refl; quoted = refl; new = refl; tries = omega arith }
 
+-- One more try, and a value noted, leave a slot so; and so does one of two.
+advanced-fits : (ticket : Ticket) → SlotFits ticket → (phase : Phase) (claimed done : ℕ) → SlotFits (advanced ticket phase claimed done)
+advanced-fits ticket fits phase claimed done = record { words = fits .words; quoted = fits .quoted; new = fits .new; tries = one-more-fits (ticket .tries) (fits .tries) }
+
+noting-fits : (ticket : Ticket) → SlotFits ticket → (found : ℕ) → SlotFits (noting ticket found)
+noting-fits ticket fits found = record { words = fits .words; quoted = length-set (ticket .quoted) (ticket .claimed) found ∙ fits .quoted; new = fits .new; tries = fits .tries }
+
+one-fits : (test : Bool) {one other : Ticket} → SlotFits one → SlotFits other → SlotFits (cond test one other)
+one-fits true this that = this
+one-fits false this that = that
+
 -- A step leaves a slot so.
 module _ (ticket : Ticket) (fits : SlotFits ticket) where
-  advanced-fits : (phase : Phase) (claimed done : ℕ) → SlotFits (advanced ticket phase claimed done)
-  advanced-fits phase claimed done = record { words = fits .words; quoted = fits .quoted; new = fits .new; tries = one-more-fits (ticket .tries) (fits .tries) }
-
   -- It ends, or goes on.
   ends-or-goes-on : (last : Bool) (end more : StepAnswer) (phase : Phase) (claimed done : ℕ)
       → SlotFits (cond last (stepped noTicket end) (stepped (advanced ticket phase claimed done) more) .ticket)
   ends-or-goes-on true end more phase claimed done = no-ticket-fits
-  ends-or-goes-on false end more phase claimed done = advanced-fits phase claimed done
+  ends-or-goes-on false end more phase claimed done = advanced-fits ticket fits phase claimed done
 
   given-back-fits : SlotFits (givenBack ticket .ticket)
   given-back-fits =
@@ -64,14 +75,20 @@ module _ (ticket : Ticket) (fits : SlotFits ticket) where
       let word = targetAt ticket (ticket .claimed) .word in
       ends-or-goes-on (eqb (ticket .claimed) 0) (Stale word (oneMoreTry (ticket .tries))) (Found word) GivingBack (ticket .claimed) 0
 
-  claimed-fits : (last : Bool) → SlotFits (cond last (advanced ticket Putting (ticket .claimed + 1) 0) (advanced ticket Claiming (ticket .claimed + 1) (ticket .done)))
-  claimed-fits true = advanced-fits Putting (ticket .claimed + 1) 0
-  claimed-fits false = advanced-fits Claiming (ticket .claimed + 1) (ticket .done)
-
   claiming-fits : (as-quoted held : Bool) → SlotFits (cond as-quoted (claimed ticket) (cond held (waited ticket) (differed ticket)) .ticket)
-  claiming-fits true held = claimed-fits (eqb (ticket .claimed + 1) (ticket .n))
-  claiming-fits false true = advanced-fits Claiming (ticket .claimed) (ticket .done)
+  claiming-fits true held =
+      let more = ticket .claimed + 1 in
+      one-fits (eqb more (ticket .n)) (advanced-fits ticket fits Putting more 0) (advanced-fits ticket fits Claiming more (ticket .done))
+  claiming-fits false true = advanced-fits ticket fits Claiming (ticket .claimed) (ticket .done)
   claiming-fits false false = differed-fits
+
+  viewing-fits : (found : ℕ) (held : Bool) → SlotFits (cond held (viewWaited ticket) (viewClaimed ticket found) .ticket)
+  viewing-fits found true = advanced-fits ticket fits Viewing (ticket .claimed) (ticket .done)
+  viewing-fits found false =
+      let more = ticket .claimed + 1 in
+      let noted = noting ticket found in
+      let noted-fits = noting-fits ticket fits found in
+      one-fits (eqb more (ticket .n)) (advanced-fits noted noted-fits Viewed more 0) (advanced-fits noted noted-fits Viewing more (ticket .done))
 
   settled-fits : (phase : Phase) (found : ℕ) → SlotFits (settledIn phase ticket found .ticket)
   settled-fits Claiming found = claiming-fits (eqb found (targetAt ticket (ticket .claimed) .quoted)) (isHeld found)
@@ -79,6 +96,10 @@ module _ (ticket : Ticket) (fits : SlotFits ticket) where
       let more = ticket .done + 1 in
       ends-or-goes-on (eqb more (ticket .n)) (Granted (oneMoreTry (ticket .tries))) (Put more) Putting (ticket .claimed) more
   settled-fits GivingBack found = given-back-fits
+  settled-fits Viewing found = viewing-fits found (isHeld found)
+  settled-fits Viewed found =
+      let more = ticket .done + 1 in
+      ends-or-goes-on (eqb more (ticket .claimed)) (Seen (valuesSeen ticket)) (Returned more) Viewed (ticket .claimed) more
   settled-fits NoTicket found = given-back-fits
 
   step-fits : (words : Words) (team : ℕ) → SlotFits (stepOf words ticket team .0 .ticket)
@@ -95,8 +116,11 @@ listed-most (Edit.Move e) = omega arith
 pub count-most : (edit : Edit) → targetCount edit ≤ mostTargets
 count-most edit = let (counted, stored) = targets-counted edit in omega (arith, listed-most edit)
 
-padded-length : (field : Target → ℕ) (targets : List Target) → length targets ≤ mostTargets → length (padded (map field targets)) ≡ mostTargets
-padded-length field targets most = simp (length-append, length-replicate, length-map) (omega arith)
+padded-length : (numbers : List ℕ) → length numbers ≤ mostTargets → length (padded numbers) ≡ mostTargets
+padded-length numbers most = simp (length-append, length-replicate) (omega arith)
+
+field-length : (field : Target → ℕ) (targets : List Target) → length targets ≤ mostTargets → length (padded (map field targets)) ≡ mostTargets
+field-length field targets most = padded-length (map field targets) (omega (arith, length-map targets field))
 
 opened-fits : (edit : Edit) → SlotFits (openedTicket edit)
 unfolding openedTicket
@@ -104,9 +128,22 @@ opened-fits edit =
     let (counted, stored) = targets-counted edit in
     let most : length (storedTargets edit) ≤ mostTargets = omega (arith, listed-most edit) in
     record {
-      words = padded-length (λ t. t .word) (storedTargets edit) most;
-      quoted = padded-length (λ t. t .quoted) (storedTargets edit) most;
-      new = padded-length (λ t. t .new) (storedTargets edit) most;
+      words = field-length (λ t. t .word) (storedTargets edit) most;
+      quoted = field-length (λ t. t .quoted) (storedTargets edit) most;
+      new = field-length (λ t. t .new) (storedTargets edit) most;
+      tries = omega arith;
+    }
+
+-- So does a view of at most six words.
+opened-view-fits : (words : List ℕ) → length words ≤ mostTargets → SlotFits (openedView words)
+unfolding openedView
+opened-view-fits words most =
+    let listed : List Target = map (λ word. target word 0 0) words in
+    let most-targets : length (viewTargets words) ≤ mostTargets = omega (arith, length-permuted (ordered-permuted positionOf listed), length-map words (λ word. target word 0 0)) in
+    record {
+      words = field-length (λ t. t .word) (viewTargets words) most-targets;
+      quoted = field-length (λ t. t .quoted) (viewTargets words) most-targets;
+      new = padded-length words most;
       tries = omega arith;
     }
 
@@ -123,18 +160,19 @@ with-fits tickets team ticket fits mine = record {
   ];
 }
 
-request-stays : (words : Words) (tickets : Tickets) (request : Request) → TableFits tickets → TableFits (requestDone words tickets request .tickets)
+request-stays : (words : Words) (tickets : Tickets) (request : Request) → TableFits tickets → Sized request → TableFits (requestDone words tickets request .tickets)
 unfolding requestDone
-request-stays words tickets (Open team edit) fits = with-fits tickets team (openedTicket edit) fits (λ inside. opened-fits edit)
-request-stays words tickets (Step team) fits =
+request-stays words tickets (Open team edit) fits sized = with-fits tickets team (openedTicket edit) fits (λ inside. opened-fits edit)
+request-stays words tickets (Step team) fits sized =
     with-fits tickets team (stepOf words (ticketOf tickets team) team .0 .ticket) fits
     (λ inside. step-fits (ticketOf tickets team) (fits .slots team inside) words team)
-request-stays words tickets (Look word) fits = fits
+request-stays words tickets (Look word) fits sized = fits
+request-stays words tickets (View team n named) fits sized = with-fits tickets team (openedView named) fits (λ inside. opened-view-fits named (sized .1))
 
-done-stays : (refusal : Option ℕ) (words : Words) (tickets : Tickets) (request : Request) → TableFits tickets → TableFits (refusedOr refusal words tickets request .tickets)
-done-stays none words tickets request fits = request-stays words tickets request fits
-done-stays (some number) words tickets request fits = fits
+done-stays : (refusal : Option ℕ) (words : Words) (tickets : Tickets) (request : Request) → TableFits tickets → (refusal ≡ none → Sized request) → TableFits (refusedOr refusal words tickets request .tickets)
+done-stays none words tickets request fits sized = request-stays words tickets request fits (sized refl)
+done-stays (some number) words tickets request fits sized = fits
 
 pub tables-stay : TablesStay
 unfolding callOf doneOf
-tables-stay words tickets frame out fits = done-stays (refusalOf words tickets frame out) words tickets (requestIn frame) fits
+tables-stay words tickets frame out fits = done-stays (refusalOf words tickets frame out) words tickets (requestIn frame) fits (λ none-given. request-sized (passed words tickets frame out none-given))

@@ -9,25 +9,25 @@ use native.Mathlib.Omega.{arith}
 use native.Mathlib.Nat.{le-of-suc-le-suc, not-suc-le-zero}
 use native.Mathlib.Decide.{ℕ-discrete, decLt}
 use lib.Dec.{eqb}
-use lib.ListN.{length}
+use lib.ListN.{length, getD, length-map, List·getD-map}
 use borrow.Author.Tests.{eqb-true, eq-eqb, not-true}
-use Rattle.words.specs.Tests.{allHold, someHolds}
+use Rattle.words.specs.Tests.{allHold, someHolds, occurs}
 use Rattle.words.proofs.Tests.{split, join, is-false}
-use Rattle.legs.specs.Positions.{occurs}
-use Rattle.tickets.specs.declared.Target.{Target}
 use Rattle.tickets.specs.declared.Phase.{Phase}
-use Rattle.tickets.specs.declared.Phase.the-variants.{NoTicket, Claiming, Putting, GivingBack}
+use Rattle.tickets.specs.declared.Phase.the-variants.{NoTicket, Claiming, Putting, GivingBack, Viewing, Viewed}
 use Rattle.tickets.specs.declared.Ticket.{Ticket}
-use Rattle.tickets.specs.Tickets.{targetAt, targetsIn, hasTicket, countsWellMade}
+use Rattle.tickets.specs.Tickets.{target, targetAt, targetsIn, wordsIn, namedIn, hasTicket, claims}
 use Rattle.tickets.specs.Steps.{mostTries}
-use Rattle.tickets.specs.Targets.{targetIn}
+use Rattle.tickets.specs.Targets.{targetIn, AllMatch}
 use Rattle.tickets.specs.Invariant.{plainValue, Holds, FitTicket}
 use Rattle.tickets.proofs.TargetLists.{length-targets, target-listed}
-use Rattle.tickets.proofs.Keeping.{claiming-counts, giving-counts}
-use Rattle.edits.specs.Opened.{storedTargets, targetCount}
+use Rattle.tickets.proofs.Keeping.{claims-counts, done-counts}
+use Rattle.edits.specs.declared.Edit.{Edit}
+use Rattle.edits.specs.Opened.{storedTargets}
 use Rattle.edits.proofs.Stored.{targets-counted}
-use Rattle.calls.specs.Order.{Verdict, granted, stale, Decision, Noted, holdsTarget, holdsAmong, holdsWord}
-use Rattle.calls.specs.Linearizable.{DecisionRight, Differed}
+use Rattle.plain.specs.Plain.{wordOf}
+use Rattle.calls.specs.Order.{Verdict, granted, stale, Event, Asked, anEdit, aView, wordsAsked, countAsked, Decision, Noted, holdsTarget, holdsAmong, holdsWord}
+use Rattle.calls.specs.Linearizable.{play, DecisionRight, Differed, Undecided}
 use Rattle.calls.proofs.Ordered.{Fine}
 
 -- The numbers heard are those from 1 to so many, each once.
@@ -78,112 +78,168 @@ up-to-more most heard known = record {
 }
 
 -- Decided exactly once, with this verdict, as the plain book finds.
-pub record Decided (verdict : Verdict) (noted : Noted) : Type 0 where
+pub record Decided (edit : Edit) (verdict : Verdict) (noted : Noted) : Type 0 where
   pub decision : Decision
   pub once : noted .decisions ≡ decision ∷ []
   pub is : decision .verdict ≡ verdict
-  pub right : DecisionRight (noted .edit) decision
+  pub right : DecisionRight edit decision
 
 -- Claiming: not decided; each step was a claim or a wait.
 pub record HeardClaiming (ticket : Ticket) (noted : Noted) : Type 0 where
-  pub undecided : noted .decisions ≡ []
-  pub not-found : noted .found ≡ none
+  pub undecided : Undecided noted
   pub swapped : noted .steps ≡ ticket .claimed + noted .waits
 
 -- Putting: decided as granted; each step was a claim, a wait or a put.
-pub record HeardPutting (ticket : Ticket) (noted : Noted) : Type 0 where
-  pub decided : Decided granted noted
+pub record HeardPutting (edit : Edit) (ticket : Ticket) (noted : Noted) : Type 0 where
+  pub decided : Decided edit granted noted
   pub not-found : noted .found ≡ none
   pub swapped : noted .steps ≡ ticket .claimed + ticket .done + noted .waits
 
 -- Giving back: decided as stale; Found named the word of the next target, which differed.
-pub record HeardGivingBack (ticket : Ticket) (noted : Noted) : Type 0 where
-  pub decided : Decided stale noted
+pub record HeardGivingBack (edit : Edit) (ticket : Ticket) (noted : Noted) : Type 0 where
+  pub decided : Decided edit stale noted
   pub found : noted .found ≡ some (targetAt ticket (ticket .claimed) .word)
-  pub differed : Differed noted (decided .decision) (targetAt ticket (ticket .claimed) .word)
+  pub differed : Differed edit noted (decided .decision) (targetAt ticket (ticket .claimed) .word)
 
-abbrev pub HeardIn : Phase → Ticket → Noted → Type 0
-HeardIn NoTicket ticket noted = ⊥
-HeardIn Claiming ticket noted = HeardClaiming ticket noted
-HeardIn Putting ticket noted = HeardPutting ticket noted
-HeardIn GivingBack ticket noted = HeardGivingBack ticket noted
+abbrev pub HeardIn : Edit → Phase → Ticket → Noted → Type 0
+HeardIn edit NoTicket ticket noted = ⊥
+HeardIn edit Claiming ticket noted = HeardClaiming ticket noted
+HeardIn edit Putting ticket noted = HeardPutting edit ticket noted
+HeardIn edit GivingBack ticket noted = HeardGivingBack edit ticket noted
+HeardIn edit Viewing ticket noted = ⊥
+HeardIn edit Viewed ticket noted = ⊥
 
--- What is known of a ticket by what was heard of it, in every phase.
+-- What is known of an edit's ticket.
+pub record KnownEdit (edit : Edit) (ticket : Ticket) (noted : Noted) : Type 0 where
+  pub fine : Fine edit
+  pub targets : targetsIn ticket ≡ storedTargets edit
+  pub phase : HeardIn edit (ticket .phase) ticket noted
+
+-- A view that gives back has its place, and the values noted are the plain book's words there.
+pub record HeardViewed (ticket : Ticket) (noted : Noted) : Type 0 where
+  pub before : List Event
+  pub placed : noted .place ≡ some before
+  pub shows : AllMatch (targetsIn ticket) (wordOf (play before))
+
+abbrev pub ViewIn : Phase → Ticket → Noted → Type 0
+ViewIn NoTicket ticket noted = ⊥
+ViewIn Claiming ticket noted = ⊥
+ViewIn Putting ticket noted = ⊥
+ViewIn GivingBack ticket noted = ⊥
+ViewIn Viewing ticket noted = Unit {0}
+ViewIn Viewed ticket noted = HeardViewed ticket noted
+
+-- What is known of a view: it is never decided; each step was a claim, a wait or a return.
+pub record KnownView (words : List ℕ) (ticket : Ticket) (noted : Noted) : Type 0 where
+  pub names : namedIn ticket ≡ words
+  pub undecided : Undecided noted
+  pub swapped : noted .steps ≡ ticket .claimed + ticket .done + noted .waits
+  pub phase : ViewIn (ticket .phase) ticket noted
+
+abbrev pub KnownAs : Asked → Ticket → Noted → Type 0
+KnownAs (anEdit edit) ticket noted = KnownEdit edit ticket noted
+KnownAs (aView words) ticket noted = KnownView words ticket noted
+
+-- What is known of a ticket by what was heard of it, of an edit's and of a view, in every phase.
 pub record Known (ticket : Ticket) (noted : Noted) : Type 0 where
-  pub fine : Fine (noted .edit)
-  pub targets : targetsIn ticket ≡ storedTargets (noted .edit)
+  pub words : wordsIn ticket ≡ wordsAsked (noted .asked)
   pub spent : ticket .tries ≡ min (noted .steps) mostTries
   pub claimed : UpTo (ticket .claimed) (noted .claimed)
   pub released : UpTo (ticket .done) (noted .released)
-  pub phase : HeardIn (ticket .phase) ticket noted
+  pub rest : KnownAs (noted .asked) ticket noted
 
 -- A team's slot and its note: neither has a ticket, or both have the same.
 abbrev pub Tied : Ticket → Option Noted → Type 0
 Tied ticket none = ticket .phase ≡ NoTicket
 Tied ticket (some noted) = Known ticket noted
 
-heard-stands : (phase : Phase) (ticket : Ticket) (noted : Noted) → HeardIn phase ticket noted → hasTicket phase ≡ true
-heard-stands NoTicket ticket noted heard = absurd heard
-heard-stands Claiming ticket noted heard = refl
-heard-stands Putting ticket noted heard = refl
-heard-stands GivingBack ticket noted heard = refl
+-- A ticket of which something is known stands.
+edit-stands : (edit : Edit) (phase : Phase) (ticket : Ticket) (noted : Noted) → HeardIn edit phase ticket noted → hasTicket phase ≡ true
+edit-stands edit NoTicket ticket noted heard = absurd heard
+edit-stands edit Claiming ticket noted heard = refl
+edit-stands edit Putting ticket noted heard = refl
+edit-stands edit GivingBack ticket noted heard = refl
+edit-stands edit Viewing ticket noted heard = refl
+edit-stands edit Viewed ticket noted heard = refl
+
+view-stands : (phase : Phase) (ticket : Ticket) (noted : Noted) → ViewIn phase ticket noted → hasTicket phase ≡ true
+view-stands NoTicket ticket noted heard = absurd heard
+view-stands Claiming ticket noted heard = refl
+view-stands Putting ticket noted heard = refl
+view-stands GivingBack ticket noted heard = refl
+view-stands Viewing ticket noted heard = refl
+view-stands Viewed ticket noted heard = refl
+
+stands-as : (asked : Asked) (ticket : Ticket) (noted : Noted) → KnownAs asked ticket noted → hasTicket (ticket .phase) ≡ true
+stands-as (anEdit edit) ticket noted known = edit-stands edit (ticket .phase) ticket noted (known .phase)
+stands-as (aView words) ticket noted known = view-stands (ticket .phase) ticket noted (known .phase)
+
+-- It has as many targets as were asked for.
+count-as : (asked : Asked) (ticket : Ticket) (noted : Noted) → KnownAs asked ticket noted → ticket .n ≡ countAsked asked
+count-as (anEdit edit) ticket noted known = sym (length-targets ticket) ∙ ap length (known .targets) ∙ targets-counted edit .1
+count-as (aView words) ticket noted known = sym (length-targets ticket) ∙ sym (length-map (targetsIn ticket) (λ one. one .new)) ∙ ap length (known .names)
 
 -- No more is claimed than there are targets.
-claimed-most : (size : ℕ) (ticket : Ticket) → FitTicket size ticket → ticket .claimed ≤ ticket .n
-claimed-most size ticket fit = in-phase (ticket .phase) refl
+claimed-most : (size : ℕ) (ticket : Ticket) → FitTicket size ticket → hasTicket (ticket .phase) ≡ true → ticket .claimed ≤ ticket .n
+claimed-most size ticket fit stands = if-claims (claims (ticket .phase)) refl
   where
-    in-phase : (phase : Phase) → ticket .phase ≡ phase → ticket .claimed ≤ ticket .n
-    in-phase NoTicket is = absurd (false≢true (subst (λ phase. countsWellMade phase (ticket .n) (ticket .claimed) (ticket .done) ≡ true) is (fit .counts)))
-    in-phase Claiming is = omega (arith, claiming-counts ticket fit is)
-    in-phase Putting is = omega (arith, fit .all-claimed is)
-    in-phase GivingBack is = omega (arith, giving-counts ticket fit is .1)
+    if-claims : (test : Bool) → claims (ticket .phase) ≡ test → ticket .claimed ≤ ticket .n
+    if-claims true is = omega (arith, claims-counts ticket fit is)
+    if-claims false is = done-counts ticket fit stands is .1
 
 -- By what was heard a ticket holds a word: some target of it is held, and is that word.
 module _ (noted : Noted) (word : ℕ) where
-  among-of : (targets : List Target) (first at : ℕ) → at < length targets → targetIn targets at .word ≡ word → holdsTarget noted (first + at) ≡ true → holdsAmong noted word first targets ≡ true
+  among-of : (words : List ℕ) (first at : ℕ) → at < length words → getD words at 0 ≡ word → holdsTarget noted (first + at) ≡ true → holdsAmong noted word first words ≡ true
   among-of [] first at below is held = absurd (not-suc-le-zero below)
-  among-of (target ∷ targets) first zero below is held =
-      first-holds _ (holdsAmong noted word (first + 1) targets)
-      (join (eqb word (target .word) ∷ holdsTarget noted first ∷ []) (eq-eqb _ _ (sym is), (subst (λ k. holdsTarget noted k ≡ true) (omega arith) held, tt)))
-  among-of (target ∷ targets) first (suc at) below is held =
-      second-holds _ (holdsAmong noted word (first + 1) targets)
-      (among-of targets (first + 1) at (le-of-suc-le-suc below) is (subst (λ k. holdsTarget noted k ≡ true) (omega arith) held))
+  among-of (one ∷ words) first zero below is held =
+      first-holds _ (holdsAmong noted word (first + 1) words)
+      (join (eqb word one ∷ holdsTarget noted first ∷ []) (eq-eqb _ _ (sym is), (subst (λ k. holdsTarget noted k ≡ true) (omega arith) held, tt)))
+  among-of (one ∷ words) first (suc at) below is held =
+      second-holds _ (holdsAmong noted word (first + 1) words)
+      (among-of words (first + 1) at (le-of-suc-le-suc below) is (subst (λ k. holdsTarget noted k ≡ true) (omega arith) held))
 
-  of-among : (targets : List Target) (first : ℕ) → holdsAmong noted word first targets ≡ true
-      → (at : ℕ) × (at < length targets) × (targetIn targets at .word ≡ word) × (holdsTarget noted (first + at) ≡ true)
+  of-among : (words : List ℕ) (first : ℕ) → holdsAmong noted word first words ≡ true
+      → (at : ℕ) × (at < length words) × (getD words at 0 ≡ word) × (holdsTarget noted (first + at) ≡ true)
   of-among [] first held = absurd (false≢true held)
-  of-among (target ∷ targets) first held = elim (either (allHold (eqb word (target .word) ∷ holdsTarget noted first ∷ [])) (holdsAmong noted word (first + 1) targets) held) [
-    | inl here ↦ let (same, (holds, u)) = split (eqb word (target .word) ∷ holdsTarget noted first ∷ []) here in
+  of-among (one ∷ words) first held = elim (either (allHold (eqb word one ∷ holdsTarget noted first ∷ [])) (holdsAmong noted word (first + 1) words) held) [
+    | inl here ↦ let (same, (holds, u)) = split (eqb word one ∷ holdsTarget noted first ∷ []) here in
         (0, suc-le-suc zero-le, sym (eqb-true _ _ same), subst (λ k. holdsTarget noted k ≡ true) (omega arith) holds)
-    | inr later ↦ let (at, below, is, holds) = of-among targets (first + 1) later in
+    | inr later ↦ let (at, below, is, holds) = of-among words (first + 1) later in
         (suc at, suc-le-suc below, is, subst (λ k. holdsTarget noted k ≡ true) (omega arith) holds)
   ]
 
+-- The target after those claimed.
+pub known-next : {edit : Edit} {ticket : Ticket} {noted : Noted} → Known ticket noted → KnownEdit edit ticket noted → ticket .claimed < ticket .n
+    → targetAt ticket (ticket .claimed) ≡ targetIn (storedTargets edit) (length (noted .claimed))
+known-next {edit} {ticket} {noted} known of-edit below =
+    sym (target-listed ticket (ticket .claimed) below)
+    ∙ ap (λ targets. targetIn targets (ticket .claimed)) (of-edit .targets)
+    ∙ ap (targetIn (storedTargets edit)) (sym (known .claimed .many))
+
 module _ {ticket : Ticket} {noted : Noted} (known : Known ticket noted) where
   pub known-stands : hasTicket (ticket .phase) ≡ true
-  known-stands = heard-stands (ticket .phase) ticket noted (known .phase)
+  known-stands = stands-as (noted .asked) ticket noted (known .rest)
 
-  -- It has as many targets as its edit, and they are the stored ones.
-  pub known-many : ticket .n ≡ length (storedTargets (noted .edit))
-  known-many = sym (length-targets ticket) ∙ ap length (known .targets)
+  pub known-count : ticket .n ≡ countAsked (noted .asked)
+  known-count = count-as (noted .asked) ticket noted (known .rest)
 
-  pub known-count : ticket .n ≡ targetCount (noted .edit)
-  known-count = known-many ∙ targets-counted (noted .edit) .1
+  -- Its words are those asked for.
+  known-many : ticket .n ≡ length (wordsAsked (noted .asked))
+  known-many = sym (length-targets ticket) ∙ sym (length-map (targetsIn ticket) (λ one. one .word)) ∙ ap length (known .words)
 
-  pub known-target : (k : ℕ) → k < ticket .n → targetAt ticket k ≡ targetIn (storedTargets (noted .edit)) k
-  known-target k below = sym (target-listed ticket k below) ∙ ap (λ targets. targetIn targets k) (known .targets)
-
-  -- The target after those claimed.
-  pub known-next : ticket .claimed < ticket .n → targetAt ticket (ticket .claimed) ≡ targetIn (storedTargets (noted .edit)) (length (noted .claimed))
-  known-next below = known-target (ticket .claimed) below ∙ ap (targetIn (storedTargets (noted .edit))) (sym (known .claimed .many))
+  known-word : (k : ℕ) → k < ticket .n → targetAt ticket k .word ≡ getD (wordsAsked (noted .asked)) k 0
+  known-word k below =
+      sym (ap (λ one. one .word) (target-listed ticket k below))
+      ∙ sym (List·getD-map (λ one. one .word) (targetsIn ticket) k (target 0 0 0))
+      ∙ ap (λ words. getD words k 0) (known .words)
 
   module _ {size : ℕ} (fit : FitTicket size ticket) (word : ℕ) where
     pub holds-heard : (value : ℕ) → Holds ticket word value → holdsWord (some noted) word ≡ true
     holds-heard value holds =
-        let most = claimed-most size ticket fit in
+        let most = claimed-most size ticket fit known-stands in
         let below : holds .at < ticket .n = omega (arith, holds .claimed) in
-        among-of noted word (storedTargets (noted .edit)) 1 (holds .at) (omega (arith, known-many))
-        (ap (λ one. one .word) (sym (known-target (holds .at) below)) ∙ holds .its-word)
+        among-of noted word (wordsAsked (noted .asked)) 1 (holds .at) (omega (arith, known-many))
+        (sym (known-word (holds .at) below) ∙ holds .its-word)
         (join (occurs (1 + holds .at) (noted .claimed) ∷ not (occurs (1 + holds .at) (noted .released)) ∷ []) (
           known .claimed .all (1 + holds .at) (omega arith) (omega (arith, holds .claimed)),
           (ap not (is-false (occurs (1 + holds .at) (noted .released)) (λ e. omega (arith, known .released .within (1 + holds .at) e .1, holds .not-done))), tt),
@@ -191,8 +247,7 @@ module _ {ticket : Ticket} {noted : Noted} (known : Known ticket noted) where
 
     pub heard-holds : holdsWord (some noted) word ≡ true → (value : ℕ) × Holds ticket word value
     heard-holds held =
-        let most = claimed-most size ticket fit in
-        let (at, below, is, holds) = of-among noted word (storedTargets (noted .edit)) 1 held in
+        let (at, below, is, holds) = of-among noted word (wordsAsked (noted .asked)) 1 held in
         let (taken, (kept, u)) = split (occurs (1 + at) (noted .claimed) ∷ not (occurs (1 + at) (noted .released)) ∷ []) holds in
         let inside : at < ticket .n = omega (arith, known-many) in (
           plainValue (ticket .phase) (targetAt ticket at),
@@ -201,7 +256,7 @@ module _ {ticket : Ticket} {noted : Noted} (known : Known ticket noted) where
             at = at;
             not-done = not-done at kept;
             claimed = omega (arith, known .claimed .within (1 + at) taken .1);
-            its-word = ap (λ one. one .word) (known-target at inside) ∙ is;
+            its-word = known-word at inside ∙ is;
             its-value = refl;
           },
         )

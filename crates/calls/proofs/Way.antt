@@ -1,5 +1,5 @@
 -- The way of a frame, as the code goes it, is what the call does where neither refusal 1 nor 2 applies.
-use Prim.Native.Nat.{ℕ, _≤_, _<_}
+use Prim.Native.Nat.{ℕ, _≤_}
 use mathlib.Core.Path.{_≡_, refl, sym, ap, _∙_}
 use mathlib.Core.List.{List, [], _∷_}
 use mathlib.Core.Bool.{Bool, true, false, cond, not}
@@ -20,29 +20,30 @@ use Rattle.tickets.specs.Tickets.{absentSlot, ticketOf, withTicket, hasTicket, 
 use Rattle.tickets.specs.Steps.{lookOf}
 use Rattle.edits.specs.declared.Edit.{Edit}
 use Rattle.edits.specs.Ranges.{editInRange, editRepeats}
+use Rattle.edits.specs.Views.{viewInRange, viewRepeats, openedView}
+use Rattle.edits.proofs.Views.{words-named}
 use Rattle.frames.specs.declared.Answer.{Answer}
 use Rattle.frames.specs.declared.Answer.the-variants as Answer
 use Rattle.frames.specs.declared.Header.{Header}
 use Rattle.frames.specs.declared.Header.the-variants as Header
-use Rattle.frames.specs.declared.Request.{Request}
-use Rattle.frames.specs.declared.Request.the-variants.{Open, Step, Look}
+use Rattle.frames.specs.Request.{Request, Open, Step, Look, View}
 use Rattle.frames.specs.Numbers.{Bytes, number16}
-use Rattle.frames.specs.Requests.{kindField, partAfterKind, addKind, moveKind, stepKind, lookKind, teamIn, editOfKind, requestOfKind, requestIn}
+use Rattle.frames.specs.Requests.{kindField, partAfterKind, addKind, moveKind, stepKind, lookKind, viewKind, teamIn, editOfKind, viewWordsIn, requestOfKind, requestIn}
 use Rattle.frames.specs.Answers.{longestAnswer}
-use Rattle.frames.specs.Fields.{frameTorn, kindUnknown, lengthWrong, fieldOutOfRange, fieldRepeated, headerOf, editRead}
-use Rattle.frames.proofs.Headers.{kind-tests, refused-tests, edit-asked, step-asked, look-asked}
+use Rattle.frames.specs.Fields.{frameTorn, kindUnknown, lengthWrong, fieldOutOfRange, fieldRepeated, headerOf, editRead, viewRead}
+use Rattle.frames.proofs.Headers.{kind-tests, refused-tests, edit-asked, step-asked, look-asked, view-asked}
 use Rattle.calls.specs.declared.Aim.{Aim}
 use Rattle.calls.specs.declared.Aim.the-variants as Aim
 use Rattle.calls.specs.declared.Settled.{Settled}
-use Rattle.calls.specs.Call.{bookLengthWrong, outputShort, teamUnknown, ownTicketBadlyMade, editWithTicket, stepWithoutTicket, refusalTests, firstFrom, refusalOf, Done, done, requestDone, refusedOr, doneOf}
-use Rattle.calls.specs.Way.{aimBy, aimOf, slotOf, settled, lookSettled, openSettled, teamSettled, settledBy, wayDone, wayOf, WayIsCall}
+use Rattle.calls.specs.Call.{bookLengthWrong, outputShort, teamUnknown, ownTicketBadlyMade, opensOverTicket, stepWithoutTicket, refusalTests, firstFrom, refusalOf, Done, done, requestDone, refusedOr, doneOf}
+use Rattle.calls.specs.Way.{aimBy, aimOf, slotOf, settled, lookSettled, openSettled, viewSettled, anewSettled, teamSettled, settledBy, wayDone, wayOf, WayIsCall}
 
 -- The tests from refusal 6 on, and what a request comes to by them.
 abbrev laterTests : Tickets → Request → List Bool
 laterTests tickets request =
     teamUnknown request
     ∷ ownTicketBadlyMade tickets request
-    ∷ editWithTicket tickets request
+    ∷ opensOverTicket tickets request
     ∷ stepWithoutTicket tickets request
     ∷ fieldOutOfRange request
     ∷ fieldRepeated request
@@ -92,7 +93,7 @@ step-way words tickets frame team = go (ltb team teamCount) (hasTicket (ticketOf
 -- An edit: refusals 6, 7, 8, 10 and 11, or its ticket.
 edit-way : (words : Words) (tickets : Tickets) (frame : Bytes) (kind : ℕ) → kind ≤ moveKind
     → laterDone words tickets (Open (teamIn (partAfterKind frame)) (editOfKind kind (partAfterKind frame))) ≡ aimDone words tickets frame (teamAim kind (teamIn (partAfterKind frame)))
-unfolding requestDone settledBy teamSettled allHold editRead openSettled
+unfolding requestDone settledBy teamSettled anewSettled allHold editRead openSettled
 edit-way words tickets frame kind most =
     go (ltb team teamCount) (hasTicket (ticketOf tickets team .phase)) (wellMade (ticketOf tickets team)) (editInRange edit) (editRepeats edit) refl refl refl refl
   where
@@ -105,15 +106,45 @@ edit-way words tickets frame kind most =
     other : eqb kind stepKind ≡ false
     other = ne-eqb kind stepKind (λ e. omega arith)
 
+    no-view : eqb kind viewKind ≡ false
+    no-view = ne-eqb kind viewKind (λ e. omega arith)
+
     go : (known stands made range repeats : Bool) → hasTicket (ticketOf tickets team .phase) ≡ stands → wellMade (ticketOf tickets team) ≡ made → editInRange edit ≡ range → editRepeats edit ≡ repeats
         → refusedOr (firstFrom 6 (not known ∷ allHold (stands ∷ not made ∷ []) ∷ stands ∷ false ∷ not range ∷ repeats ∷ [])) words tickets (Open team edit)
         ≡ aimDone words tickets frame (cond known (Aim.Team kind team) (Aim.Refused 6))
     go false stands made range repeats h w r s = slot-kept tickets 0 (Answer.Refused 6) words
     go true true true range repeats h w r s = rw (h, w, other) (slot-kept tickets team (Answer.Refused 8) words)
     go true true false range repeats h w r s = rw (h, w) (slot-kept tickets team (Answer.Refused 7) words)
-    go true false made true true h w r s = rw (h, other, r, s) (slot-kept tickets team (Answer.Refused 11) words)
-    go true false made true false h w r s = rw (h, other, r, s) refl
-    go true false made false repeats h w r s = rw (h, other, r) (slot-kept tickets team (Answer.Refused 10) words)
+    go true false made true true h w r s = rw (h, other, no-view, r, s) (slot-kept tickets team (Answer.Refused 11) words)
+    go true false made true false h w r s = rw (h, other, no-view, r, s) refl
+    go true false made false repeats h w r s = rw (h, other, no-view, r) (slot-kept tickets team (Answer.Refused 10) words)
+
+-- A view: likewise.
+view-way : (words : Words) (tickets : Tickets) (frame : Bytes)
+    → laterDone words tickets (View (teamIn (partAfterKind frame)) (number16 (partAfterKind frame) 2) (viewWordsIn (partAfterKind frame)))
+    ≡ aimDone words tickets frame (teamAim viewKind (teamIn (partAfterKind frame)))
+unfolding requestDone settledBy teamSettled anewSettled allHold viewRead viewSettled
+view-way words tickets frame =
+    go (ltb team teamCount) (hasTicket (ticketOf tickets team .phase)) (wellMade (ticketOf tickets team)) (viewInRange n named) (viewRepeats named) refl refl refl refl
+  where
+    team : ℕ
+    team = teamIn (partAfterKind frame)
+
+    n : ℕ
+    n = number16 (partAfterKind frame) 2
+
+    named : List ℕ
+    named = viewWordsIn (partAfterKind frame)
+
+    go : (known stands made range repeats : Bool) → hasTicket (ticketOf tickets team .phase) ≡ stands → wellMade (ticketOf tickets team) ≡ made → viewInRange n named ≡ range → viewRepeats named ≡ repeats
+        → refusedOr (firstFrom 6 (not known ∷ allHold (stands ∷ not made ∷ []) ∷ stands ∷ false ∷ not range ∷ repeats ∷ [])) words tickets (View team n named)
+        ≡ aimDone words tickets frame (cond known (Aim.Team viewKind team) (Aim.Refused 6))
+    go false stands made range repeats h w r s = slot-kept tickets 0 (Answer.Refused 6) words
+    go true true true range repeats h w r s = rw (h, w) (slot-kept tickets team (Answer.Refused 8) words)
+    go true true false range repeats h w r s = rw (h, w) (slot-kept tickets team (Answer.Refused 7) words)
+    go true false made true true h w r s = rw (h, r, s) (slot-kept tickets team (Answer.Refused 11) words)
+    go true false made true false h w r s = rw (h, r, s) (ap (λ (l : List ℕ). done (Answer.Standing (length named)) (withTicket tickets team (openedView l)) words) (sym (words-named named)))
+    go true false made false repeats h w r s = rw (h, r) (slot-kept tickets team (Answer.Refused 10) words)
 
 -- What the header says of the aim, the request and the kind.
 aim-by : (frame : Bytes) (header : Header) → headerOf frame ≡ header → aimOf frame ≡ aimBy frame header
@@ -124,12 +155,12 @@ asked-by : (frame : Bytes) (kind : ℕ) → kindField frame ≡ kind → request
 unfolding requestIn
 asked-by frame kind is = ap (λ (k : ℕ). requestOfKind k (partAfterKind frame)) is
 
-kind-below : (frame : Bytes) (kind : ℕ) → headerOf frame ≡ Header.Kind kind → (kind ≡ lookKind → ⊥) → (kind ≡ stepKind → ⊥) → kind ≤ moveKind
-kind-below frame kind header not-look not-step =
+kind-below : (frame : Bytes) (kind : ℕ) → headerOf frame ≡ Header.Kind kind → (kind ≡ lookKind → ⊥) → (kind ≡ stepKind → ⊥) → (kind ≡ viewKind → ⊥) → kind ≤ moveKind
+kind-below frame kind header not-look not-step not-view =
     let (torn, unknown, wrong, is) = kind-tests frame kind header in
-    let (least, (most, u)) = split (leb addKind (kindField frame) ∷ leb (kindField frame) lookKind ∷ []) (not-false _ unknown) in
-    let below : kindField frame ≤ lookKind = leb-true _ _ most in
-    omega (arith, below, is, not-look, not-step)
+    let (least, (most, u)) = split (leb addKind (kindField frame) ∷ leb (kindField frame) viewKind ∷ []) (not-false _ unknown) in
+    let below : kindField frame ≤ viewKind = leb-true _ _ most in
+    omega (arith, below, is, not-look, not-step, not-view)
 
 look-done : (words : Words) (tickets : Tickets) (frame : Bytes) → laterDone words tickets (Look (number16 (partAfterKind frame) 0)) ≡ aimDone words tickets frame Aim.Look
 unfolding settledBy
@@ -173,7 +204,12 @@ module _ (words : Words) (tickets : Tickets) (frame out : Bytes) (whole : length
     | yes look ↦ kind-way kind Aim.Look (Look (number16 (partAfterKind frame) 0)) e (rw (eq-eqb kind lookKind look) refl) (rw look (look-asked (partAfterKind frame))) (look-done words tickets frame)
     | no other ↦ elim (ℕ-discrete kind stepKind) [
       | yes step ↦ kind-way kind (teamAim stepKind (teamIn (partAfterKind frame))) (Step (teamIn (partAfterKind frame))) e (rw (ne-eqb kind lookKind other, step) refl) (rw step (step-asked (partAfterKind frame))) (step-way words tickets frame (teamIn (partAfterKind frame)))
-      | no edit ↦ kind-way kind (teamAim kind (teamIn (partAfterKind frame))) (Open (teamIn (partAfterKind frame)) (editOfKind kind (partAfterKind frame))) e (rw (ne-eqb kind lookKind other) refl) (edit-asked kind (partAfterKind frame) (kind-below frame kind e other edit)) (edit-way words tickets frame kind (kind-below frame kind e other edit))
+      | no not-step ↦ elim (ℕ-discrete kind viewKind) [
+        | yes view ↦ kind-way kind (teamAim viewKind (teamIn (partAfterKind frame))) (View (teamIn (partAfterKind frame)) (number16 (partAfterKind frame) 2) (viewWordsIn (partAfterKind frame))) e (rw (ne-eqb kind lookKind other, view) refl) (rw view (view-asked (partAfterKind frame))) (view-way words tickets frame)
+        | no not-view ↦
+            let edit = kind-below frame kind e other not-step not-view in
+            kind-way kind (teamAim kind (teamIn (partAfterKind frame))) (Open (teamIn (partAfterKind frame)) (editOfKind kind (partAfterKind frame))) e (rw (ne-eqb kind lookKind other) refl) (edit-asked kind (partAfterKind frame) edit) (edit-way words tickets frame kind edit)
+      ]
     ]
   ]
 

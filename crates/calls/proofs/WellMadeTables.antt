@@ -1,4 +1,4 @@
--- A table whose tickets are all well made stays so: the step keeps a ticket well made or ends it, and an edit opens one that is.
+-- A table whose tickets are all well made stays so: the step keeps a ticket well made or ends it, and an edit or a view opens one that is.
 use Prim.Native.Nat.{ℕ, zero, suc, _+_, _-_, _<_, _≤_}
 use mathlib.Core.Path.{_≡_, refl, sym, ap, subst, _∙_}
 use mathlib.Core.List.{List, [], _∷_}
@@ -8,7 +8,7 @@ use native.Mathlib.Omega.{arith}
 use native.Mathlib.Decide.{ℕ-discrete}
 use borrow.Author.Tests.{lt-ltb}
 use lib.Dec.{eqb}
-use lib.ListN.{getD, set, take, drop}
+use lib.ListN.{length, getD, set, take, drop}
 use Rattle.words.specs.Words.{Words, teamCount}
 use Rattle.words.proofs.Tests.{join}
 use Rattle.tickets.specs.declared.Ticket.{Ticket}
@@ -18,19 +18,23 @@ use Rattle.tickets.specs.Steps.{stepOf}
 use Rattle.tickets.proofs.WellMade.{well-made-kept}
 use Rattle.edits.specs.declared.Edit.{Edit}
 use Rattle.edits.specs.Ranges.{editInRange, editRepeats}
+use Rattle.edits.specs.Views.{viewInRange, viewRepeats, openedView}
 use Rattle.edits.specs.Opened.{openedTicket}
 use Rattle.edits.proofs.Stored.{opened-tickets-well-made}
+use Rattle.edits.proofs.Views.{words-named, opened-views-well-made}
 use Rattle.frames.specs.declared.Answer.the-variants as Answer
 use Rattle.frames.specs.declared.EditRead.the-variants as EditRead
-use Rattle.frames.specs.Numbers.{Bytes, areBytes}
-use Rattle.frames.specs.Requests.{partAfterKind, stepKind, editOfKind}
-use Rattle.frames.specs.Fields.{editRead}
+use Rattle.frames.specs.declared.Reading.the-variants as Reading
+use Rattle.frames.specs.Numbers.{Bytes, areBytes, number16}
+use Rattle.frames.specs.Requests.{partAfterKind, stepKind, viewKind, lengthOfKind, editOfKind, viewWordsIn}
+use Rattle.frames.specs.Fields.{editRead, readAs, viewRead, ViewFields, FieldsOf}
 use Rattle.frames.proofs.Asked.{edit-stations}
 use Rattle.frames.proofs.Bytes.{first-byte, bytes-after}
 use Rattle.calls.specs.declared.Aim.{Aim}
 use Rattle.calls.specs.declared.Aim.the-variants as Aim
 use Rattle.calls.specs.declared.Settled.{Settled}
-use Rattle.calls.specs.Way.{SlotWellMade, TableWellMade, slotWellMade, wellMadeFrom, settled, lookSettled, openSettled, stepSettled, teamSettled, settledBy}
+use Rattle.calls.specs.Way.{AimKnown, SlotWellMade, TableWellMade, slotWellMade, wellMadeFrom, settled, lookSettled, openSettled, viewSettled, stepSettled, anewSettled, teamSettled, settledBy}
+use Rattle.calls.proofs.Refusing.{named-many, fine-view}
 
 -- Bytes one by one, and the first of them.
 pub each-byte : (bytes : Bytes) → ((at : ℕ) → getD bytes at 0 < 256) → areBytes bytes ≡ true
@@ -119,22 +123,40 @@ open-well-made ticket kind part bytes sound = go (editInRange edit) (editRepeats
     go true false r s = λ stands. opened-tickets-well-made edit (join (editInRange edit ∷ not (editRepeats edit) ∷ []) (r, (ap not s, tt))) (edit-stations kind part bytes)
     go false repeats r s = sound
 
-team-well-made : (words : Words) (ticket : Ticket) (part : Bytes) (kind team : ℕ) → areBytes part ≡ true → SlotWellMade ticket → SlotWellMade (teamSettled words ticket part kind team .0 .ticket)
-unfolding teamSettled
-team-well-made words ticket part kind team bytes sound = go (hasTicket (ticket .phase)) (wellMade ticket) (eqb kind stepKind) refl
+view-well-made : (ticket : Ticket) (part : Bytes) → ViewFields part → SlotWellMade ticket → SlotWellMade (viewSettled ticket (viewRead (number16 part 2) (viewWordsIn part)) .ticket)
+unfolding viewSettled viewRead
+view-well-made ticket part fields sound = go (viewInRange n words) (viewRepeats words) refl refl
   where
-    go : (stands made step : Bool) → wellMade ticket ≡ made
+    n : ℕ
+    n = number16 part 2
+
+    words : List ℕ
+    words = viewWordsIn part
+
+    go : (range repeats : Bool) → viewInRange n words ≡ range → viewRepeats words ≡ repeats
+        → SlotWellMade (viewSettled ticket (cond range (cond repeats (readAs (Reading.Refused 11) []) (readAs Reading.Is words)) (readAs (Reading.Refused 10) [])) .ticket)
+    go true true r s = sound
+    go true false r s = λ stands. ap (λ (named : List ℕ). wellMade (openedView named)) (words-named words) ∙ opened-views-well-made words (fine-view n words (named-many part fields) r s)
+    go false repeats r s = sound
+
+team-well-made : (words : Words) (ticket : Ticket) (part : Bytes) (kind team : ℕ) → FieldsOf kind part → areBytes part ≡ true → SlotWellMade ticket → SlotWellMade (teamSettled words ticket part kind team .0 .ticket)
+unfolding teamSettled anewSettled
+team-well-made words ticket part kind team fields bytes sound = go (hasTicket (ticket .phase)) (wellMade ticket) (eqb kind stepKind) (eqb kind viewKind) refl fields
+  where
+    go : (stands made step view : Bool) → wellMade ticket ≡ made → cond view (ViewFields part) (length part ≡ lengthOfKind kind - 2)
         → SlotWellMade ((cond {A = Settled × Words} stands
         (cond made (cond step (stepSettled (stepOf words ticket team)) (settled ticket (Answer.Refused 8), words)) (settled ticket (Answer.Refused 7), words))
-        (cond step (settled ticket (Answer.Refused 9), words) (openSettled ticket (editRead (editOfKind kind part)), words))) .0 .ticket)
-    go true true true m = step-well-made words ticket team m
-    go true true false m = sound
-    go true false step m = sound
-    go false made true m = sound
-    go false made false m = open-well-made ticket kind part bytes sound
+        (cond step (settled ticket (Answer.Refused 9), words) (cond step (stepSettled (stepOf words ticket team))
+        (cond view (viewSettled ticket (viewRead (number16 part 2) (viewWordsIn part)), words) (openSettled ticket (editRead (editOfKind kind part)), words))))) .0 .ticket)
+    go true true true view m f = step-well-made words ticket team m
+    go true true false view m f = sound
+    go true false step view m f = sound
+    go false made true view m f = sound
+    go false made false true m f = view-well-made ticket part f sound
+    go false made false false m f = open-well-made ticket kind part bytes sound
 
-pub settled-well-made : (words : Words) (ticket : Ticket) (frame : Bytes) (aim : Aim) → areBytes frame ≡ true → SlotWellMade ticket → SlotWellMade (settledBy words ticket frame aim .0 .ticket)
+pub settled-well-made : (words : Words) (ticket : Ticket) (frame : Bytes) (aim : Aim) → AimKnown frame aim → areBytes frame ≡ true → SlotWellMade ticket → SlotWellMade (settledBy words ticket frame aim .0 .ticket)
 unfolding settledBy lookSettled
-settled-well-made words ticket frame (Aim.Refused number) bytes sound = sound
-settled-well-made words ticket frame Aim.Look bytes sound = sound
-settled-well-made words ticket frame (Aim.Team kind team) bytes sound = team-well-made words ticket (partAfterKind frame) kind team (bytes-after 4 frame bytes) sound
+settled-well-made words ticket frame (Aim.Refused number) known bytes sound = sound
+settled-well-made words ticket frame Aim.Look known bytes sound = sound
+settled-well-made words ticket frame (Aim.Team kind team) known bytes sound = team-well-made words ticket (partAfterKind frame) kind team (known .0 .fields) (bytes-after 4 frame bytes) sound

@@ -15,8 +15,7 @@ use Rattle.frames.specs.Numbers.{Bytes}
 use Rattle.tickets.specs.declared.StepAnswer.the-variants.{Claimed, Waiting, Found, Put, Granted, Stale}
 use Rattle.edits.specs.declared.Edit.{Edit}
 use Rattle.edits.specs.declared.Edit.the-variants.{Add, Strike}
-use Rattle.frames.specs.declared.Request.{Request}
-use Rattle.frames.specs.declared.Request.the-variants.{Open, Step}
+use Rattle.frames.specs.Request.{Request, Open, Step}
 use Rattle.frames.specs.Writing.{requestFrame}
 use Rattle.frames.specs.Answers.{answerFrame}
 use Rattle.calls.specs.Survey.{surveyOf, joined}

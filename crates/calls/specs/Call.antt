@@ -13,8 +13,8 @@ use Rattle.tickets.specs.declared.Stepped.{Stepped}
 use Rattle.tickets.specs.Tickets.{ticketOf, withTicket, hasTicket, wellMade}
 use Rattle.tickets.specs.Steps.{stepOf, lookOf}
 use Rattle.edits.specs.Opened.{targetCount, openedTicket}
-use Rattle.frames.specs.declared.Request.{Request}
-use Rattle.frames.specs.declared.Request.the-variants.{Open, Step, Look}
+use Rattle.edits.specs.Views.{openedView}
+use Rattle.frames.specs.Request.{Request, Open, Step, Look, View}
 use Rattle.frames.specs.declared.Answer.{Answer}
 use Rattle.frames.specs.declared.Answer.the-variants as Answer
 use Rattle.frames.specs.Numbers.{Bytes}
@@ -27,7 +27,7 @@ use Rattle.calls.specs.declared.Reply.{Reply}
 abbrev pub bookLengthWrong : Words → Bool
 bookLengthWrong words = not (eqb (length words) wordsInBook)
 
--- 2. The output is shorter than 12 bytes.
+-- 2. The output is shorter than 52 bytes.
 abbrev pub outputShort : Bytes → Bool
 outputShort out = ltb (length out) longestAnswer
 
@@ -36,6 +36,7 @@ abbrev pub teamUnknown : Request → Bool
 teamUnknown (Open team edit) = not (ltb team teamCount)
 teamUnknown (Step team) = not (ltb team teamCount)
 teamUnknown (Look word) = false
+teamUnknown (View team n words) = not (ltb team teamCount)
 
 -- 7. The team's own ticket isn't well made.
 abbrev pub badlyMade : Ticket → Bool
@@ -45,18 +46,21 @@ abbrev pub ownTicketBadlyMade : Tickets → Request → Bool
 ownTicketBadlyMade tickets (Open team edit) = badlyMade (ticketOf tickets team)
 ownTicketBadlyMade tickets (Step team) = badlyMade (ticketOf tickets team)
 ownTicketBadlyMade tickets (Look word) = false
+ownTicketBadlyMade tickets (View team n words) = badlyMade (ticketOf tickets team)
 
--- 8. An edit comes from a team with a ticket.
-abbrev pub editWithTicket : Tickets → Request → Bool
-editWithTicket tickets (Open team edit) = hasTicket (ticketOf tickets team .phase)
-editWithTicket tickets (Step team) = false
-editWithTicket tickets (Look word) = false
+-- 8. An edit or a view comes from a team with a ticket.
+abbrev pub opensOverTicket : Tickets → Request → Bool
+opensOverTicket tickets (Open team edit) = hasTicket (ticketOf tickets team .phase)
+opensOverTicket tickets (Step team) = false
+opensOverTicket tickets (Look word) = false
+opensOverTicket tickets (View team n words) = hasTicket (ticketOf tickets team .phase)
 
 -- 9. A step comes from a team without one.
 abbrev pub stepWithoutTicket : Tickets → Request → Bool
 stepWithoutTicket tickets (Open team edit) = false
 stepWithoutTicket tickets (Step team) = not (hasTicket (ticketOf tickets team .phase))
 stepWithoutTicket tickets (Look word) = false
+stepWithoutTicket tickets (View team n words) = false
 
 -- The refusals' tests, in checking order, 1 to 11.
 unfoldable pub refusalTests : Words → Tickets → Bytes → Bytes → List Bool
@@ -69,7 +73,7 @@ refusalTests words tickets frame out =
     ∷ lengthWrong frame
     ∷ teamUnknown request
     ∷ ownTicketBadlyMade tickets request
-    ∷ editWithTicket tickets request
+    ∷ opensOverTicket tickets request
     ∷ stepWithoutTicket tickets request
     ∷ fieldOutOfRange request
     ∷ fieldRepeated request
@@ -97,11 +101,12 @@ done answer tickets words = record { answer = answer; tickets = tickets; words =
 abbrev pub stepDone : Tickets → ℕ → Stepped × Words → Done
 stepDone tickets team result = done (Answer.Step (result .0 .answer)) (withTicket tickets team (result .0 .ticket)) (result .1)
 
--- What a request does: an edit opens a ticket and changes no word (Standing); a step is one swap; a look is one read.
+-- What a request does: an edit or a view opens a ticket and changes no word (Standing); a step is one swap; a look is one read.
 unfoldable pub requestDone : Words → Tickets → Request → Done
 requestDone words tickets (Open team edit) = done (Answer.Standing (targetCount edit)) (withTicket tickets team (openedTicket edit)) words
 requestDone words tickets (Step team) = stepDone tickets team (stepOf words (ticketOf tickets team) team)
 requestDone words tickets (Look word) = done (Answer.Look (lookOf words word)) tickets words
+requestDone words tickets (View team n named) = done (Answer.Standing (length named)) (withTicket tickets team (openedView named)) words
 
 -- A refusal, where "book and tickets keep every value", or what the request does.
 abbrev pub refusedOr : Option ℕ → Words → Tickets → Request → Done

@@ -12,8 +12,7 @@ use Rattle.tickets.specs.declared.LookAnswer.{LookAnswer}
 use Rattle.tickets.specs.Tickets.{ticketOf}
 use Rattle.tickets.specs.Steps.{mostTries}
 use Rattle.edits.specs.Opened.{targetCount}
-use Rattle.frames.specs.declared.Request.{Request}
-use Rattle.frames.specs.declared.Request.the-variants.{Open, Step, Look}
+use Rattle.frames.specs.Request.{Request, Open, Step, Look, View}
 use Rattle.frames.specs.declared.Answer.{Answer}
 use Rattle.frames.specs.declared.Answer.the-variants as Answer
 use Rattle.frames.specs.Numbers.{Bytes}
@@ -35,11 +34,12 @@ pub record TableFits (tickets : Tickets) : Type 0 where
   pub teams : length (tickets .slots) ≡ teamCount
   pub slots : (team : ℕ) → team < teamCount → SlotFits (ticketOf tickets team)
 
--- The answers that fit a request: an edit gets Standing with the number of its targets, a step a step's answer, a look Value or Held.
+-- The answers that fit a request: an edit or a view gets Standing with the number of its targets, a step a step's answer, a look Value or Held.
 pub data AnswerTo : Request → Answer → Type 0 where
   opened : (team : ℕ) {edit : _} → AnswerTo (Open team edit) (Answer.Standing (targetCount edit))
   stepped : (team : ℕ) (answer : StepAnswer) → AnswerTo (Step team) (Answer.Step answer)
   shown : (word : ℕ) (answer : LookAnswer) → AnswerTo (Look word) (Answer.Look answer)
+  viewing : (team n : ℕ) {words : _} → AnswerTo (View team n words) (Answer.Standing (length words))
 
 -- Book and tickets keep every value.
 pub record NothingChanged (words : Words) (tickets : Tickets) (frame out : Bytes) : Type 0 where
@@ -89,6 +89,7 @@ abbrev pub IsOf : ℕ → Request → Type 0
 IsOf team (Open other edit) = team ≡ other
 IsOf team (Step other) = team ≡ other
 IsOf team (Look word) = ⊥
+IsOf team (View other n words) = team ≡ other
 
 -- Statement: and every other team's ticket as it was.
 abbrev pub OthersKeepTickets : Type 0

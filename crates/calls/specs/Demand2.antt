@@ -1,13 +1,14 @@
 -- Demand 2: "Each edit opens exactly the ticket of document 01, each step is one conditional swap of the published method, each look one of its reads."
 use mathlib.Core.Path.{_≡_}
 use mathlib.Core.Option.{none}
+use lib.ListN.{length}
 use Rattle.words.specs.Words.{Words, swapOf}
 use Rattle.tickets.specs.declared.Tickets.{Tickets}
 use Rattle.tickets.specs.Tickets.{ticketOf, withTicket}
 use Rattle.tickets.specs.Steps.{swapTried, settled, lookOf}
 use Rattle.edits.specs.Opened.{targetCount, openedTicket}
-use Rattle.frames.specs.declared.Request.{Request}
-use Rattle.frames.specs.declared.Request.the-variants.{Open, Step, Look}
+use Rattle.edits.specs.Views.{openedView}
+use Rattle.frames.specs.Request.{Request, Open, Step, Look, View}
 use Rattle.frames.specs.declared.Answer.{Answer}
 use Rattle.frames.specs.declared.Answer.the-variants as Answer
 use Rattle.frames.specs.Numbers.{Bytes}
@@ -28,12 +29,14 @@ Does words tickets (Open team edit) result = Leaves result words (withTicket tic
 -- A step is one conditional swap, the one that the ticket tries; the word that it found settles the ticket and the answer.
 Does words tickets (Step team) result =
     let ticket = ticketOf tickets team in
-    let tried = swapTried ticket team in
+    let tried = swapTried words ticket team in
     let swap = swapOf words (tried .word) (tried .expected) (tried .desired) in
     let after = settled ticket (swap .found) in
     Leaves result (swap .words) (withTicket tickets team (after .ticket)) (Answer.Step (after .answer))
 -- A look is one read and changes nothing.
 Does words tickets (Look word) result = Leaves result words tickets (Answer.Look (lookOf words word))
+-- A view opens its ticket and changes no word.
+Does words tickets (View team n named) result = Leaves result words (withTicket tickets team (openedView named)) (Answer.Standing (length named))
 
 -- The call leaves the words and the tickets of what was done, and writes the answer's frame.
 pub record CallGives (words : Words) (tickets : Tickets) (frame out : Bytes) (result : Done) : Type 0 where

@@ -11,26 +11,31 @@ use Rattle.tickets.specs.Tickets.{ticketOf}
 use Rattle.tickets.specs.Steps.{mostTries}
 use Rattle.tickets.specs.Targets.{targetIn}
 use Rattle.edits.specs.declared.Edit.{Edit}
-use Rattle.edits.specs.Opened.{storedTargets, targetCount}
+use Rattle.edits.specs.Opened.{storedTargets}
 use Rattle.plain.specs.Plain.{Plain, freshPlain, wordOf, legsInBook, Sound}
 use Rattle.plain.specs.Editing.{succeeds, attempt, addsIn, strikesIn}
 use Rattle.calls.specs.Call.{bookLengthWrong, badlyMade}
 use Rattle.calls.specs.Run.{Call, OfBytes, Heard, run}
-use Rattle.calls.specs.Order.{Verdict, granted, stale, Event, decided, looked, Decision, Noted, Last, wasGranted, wasStale, Ended, order, ended, notesOn, HeldBy}
+use Rattle.calls.specs.Order.{Verdict, granted, stale, Event, decided, looked, seen, reserved, Asked, anEdit, aView, countAsked, Decision, Noted, Last, wasGranted, wasStale, wasSeen, Ended, order, ended, notesOn, HeldBy}
 
--- What the plain book is fed: an edit to try, or a word to look at. Neither a verdict nor a value that was heard.
+-- What the plain book is fed: an edit to try, a word to look at, or words to see together. Neither a verdict nor a value that was heard.
 pub data Deed : Type 0 where
   try : Edit → Deed
   look : (word : ℕ) → Deed
+  see : (words : List ℕ) → Deed
 
 abbrev pub deedOf : Event → Deed
 deedOf (decided verdict edit) = try edit
 deedOf (looked word value) = look word
+deedOf (seen words values) = see words
+-- (A place that is only reserved is none: nothing is seen there.)
+deedOf (reserved team) = see []
 
--- The plain book finds for itself whether an edit succeeds; for a look it stays.
+-- The plain book finds for itself whether an edit succeeds; for a look and a view it stays.
 abbrev pub feed : Plain → Deed → Plain
 feed plain (try edit) = attempt plain edit
 feed plain (look word) = plain
+feed plain (see words) = plain
 
 unfoldable pub playFrom : Plain → List Deed → Plain
 playFrom plain [] = plain
@@ -49,6 +54,8 @@ abbrev pub grantedIn : (Edit → ℕ) → Event → ℕ
 grantedIn count (decided granted edit) = count edit
 grantedIn count (decided stale edit) = 0
 grantedIn count (looked word value) = 0
+grantedIn count (seen words values) = 0
+grantedIn count (reserved team) = 0
 
 unfoldable pub grantedOf : (Edit → ℕ) → List Event → ℕ
 grantedOf count [] = 0
@@ -59,56 +66,83 @@ abbrev pub DecisionRight : Edit → Decision → Type 0
 DecisionRight edit decision = decision .verdict ≡ verdictOf (play (decision .before)) edit
 
 -- A word that was named as the one that differed: that of the target after those claimed, whose plain word at the decision is not the quoted value.
-pub record Differed (ticket : Noted) (decision : Decision) (word : ℕ) : Type 0 where
-  pub named : word ≡ targetIn (storedTargets (ticket .edit)) (length (ticket .claimed)) .word
-  pub differs : wordOf (play (decision .before)) word ≡ targetIn (storedTargets (ticket .edit)) (length (ticket .claimed)) .quoted → ⊥
+pub record Differed (edit : Edit) (ticket : Noted) (decision : Decision) (word : ℕ) : Type 0 where
+  pub named : word ≡ targetIn (storedTargets edit) (length (ticket .claimed)) .word
+  pub differs : wordOf (play (decision .before)) word ≡ targetIn (storedTargets edit) (length (ticket .claimed)) .quoted → ⊥
 
 -- Stale repeats the word that Found named; where no Found came, nothing was claimed.
 abbrev pub Repeats : Option ℕ → ℕ → List ℕ → Type 0
 Repeats none word claimed = length claimed ≡ 0
 Repeats (some found) word claimed = word ≡ found
 
--- The last answer fits the ticket's one decision: Granted if it was granted, Stale if stale, naming the word that differed.
-abbrev pub LastFits : Noted → Decision → Last → Type 0
-LastFits ticket decision (wasGranted tries) = decision .verdict ≡ granted
-LastFits ticket decision (wasStale word tries) = (decision .verdict ≡ stale) × Differed ticket decision word × Repeats (ticket .found) word (ticket .claimed)
+-- The last answer fits the edit's one decision: Granted if it was granted, Stale if stale, naming the word that differed.
+abbrev pub LastFits : Edit → Noted → Decision → Last → Type 0
+LastFits edit ticket decision (wasGranted tries) = decision .verdict ≡ granted
+LastFits edit ticket decision (wasStale word tries) = (decision .verdict ≡ stale) × Differed edit ticket decision word × Repeats (ticket .found) word (ticket .claimed)
+LastFits edit ticket decision (wasSeen values) = ⊥
 
--- A ticket that ended was decided exactly once, as the plain book finds, and its last answer fits that.
-pub record EndedRight (end : Ended) : Type 0 where
+-- An edit's ticket that ended was decided exactly once, as the plain book finds, and its last answer fits that.
+pub record EditEnded (edit : Edit) (end : Ended) : Type 0 where
   pub decision : Decision
   pub once : end .ticket .decisions ≡ decision ∷ []
-  pub right : DecisionRight (end .ticket .edit) decision
-  pub fits : LastFits (end .ticket) decision (end .last)
+  pub right : DecisionRight edit decision
+  pub fits : LastFits edit (end .ticket) decision (end .last)
 
--- What Found named of a ticket still standing, by its decision: nothing if granted, the word that differed if stale.
-abbrev pub FoundFits : Noted → Decision → Verdict → Option ℕ → Type 0
-FoundFits ticket decision granted found = found ≡ none
-FoundFits ticket decision stale none = ⊥
-FoundFits ticket decision stale (some word) = Differed ticket decision word
+-- The values that a view showed are the plain book's words at its place, in the order named. A view is neither granted nor stale.
+abbrev pub ViewShows : List ℕ → List Event → Last → Type 0
+ViewShows words before (wasGranted tries) = ⊥
+ViewShows words before (wasStale word tries) = ⊥
+ViewShows words before (wasSeen values) = values ≡ map (wordOf (play before)) words
 
--- A ticket still standing is not decided yet, and no Found came; or it was decided once, as the plain book finds.
-abbrev pub DecidedAtMostOnce : Noted → Type 0
-DecidedAtMostOnce ticket =
-    ((ticket .decisions ≡ []) × (ticket .found ≡ none))
-    ⊎ ((decision : Decision) × (ticket .decisions ≡ decision ∷ []) × DecisionRight (ticket .edit) decision × FoundFits ticket decision (decision .verdict) (ticket .found))
+-- A view that ended had its place at its last claim, and showed the words of that moment.
+pub record ViewEnded (words : List ℕ) (end : Ended) : Type 0 where
+  pub before : List Event
+  pub placed : end .ticket .place ≡ some before
+  pub shows : ViewShows words before (end .last)
+
+abbrev pub EndedAs : Asked → Ended → Type 0
+EndedAs (anEdit edit) end = EditEnded edit end
+EndedAs (aView words) end = ViewEnded words end
+
+abbrev pub EndedRight : Ended → Type 0
+EndedRight end = EndedAs (end .ticket .asked) end
+
+-- What Found named of an edit's ticket still standing, by its decision: nothing if granted, the word that differed if stale.
+abbrev pub FoundFits : Edit → Noted → Decision → Verdict → Option ℕ → Type 0
+FoundFits edit ticket decision granted found = found ≡ none
+FoundFits edit ticket decision stale none = ⊥
+FoundFits edit ticket decision stale (some word) = Differed edit ticket decision word
+
+-- A ticket is not decided, and no Found came.
+abbrev pub Undecided : Noted → Type 0
+Undecided ticket = (ticket .decisions ≡ []) × (ticket .found ≡ none)
+
+-- An edit's ticket still standing is not decided yet; or it was decided once, as the plain book finds. A view is never decided.
+abbrev pub DecidedAtMostOnce : Asked → Noted → Type 0
+DecidedAtMostOnce (anEdit edit) ticket =
+    Undecided ticket
+    ⊎ ((decision : Decision) × (ticket .decisions ≡ decision ∷ []) × DecisionRight edit decision × FoundFits edit ticket decision (decision .verdict) (ticket .found))
+DecidedAtMostOnce (aView words) ticket = Undecided ticket
 
 abbrev pub StandingRight : Option Noted → Type 0
 StandingRight none = Unit {0}
-StandingRight (some ticket) = DecidedAtMostOnce ticket
+StandingRight (some ticket) = DecidedAtMostOnce (ticket .asked) ticket
 
--- The tries that a last answer tells.
-abbrev pub triesIn : Last → ℕ
-triesIn (wasGranted tries) = tries
-triesIn (wasStale word tries) = tries
+-- A last answer tells these tries; a view's tells none.
+abbrev pub TellsTries : Last → ℕ → Type 0
+TellsTries (wasGranted tries) steps = tries ≡ steps
+TellsTries (wasStale word tries) steps = tries ≡ steps
+TellsTries (wasSeen values) steps = Unit {0}
 
--- "A granted ticket has tries of 2n plus its waits": so many steps were answered.
+-- "A granted ticket has tries of 2n plus its waits": so many steps were answered. So it is of a view.
 abbrev pub StepsOf : Last → Noted → Type 0
-StepsOf (wasGranted tries) ticket = ticket .steps ≡ 2 * targetCount (ticket .edit) + ticket .waits
+StepsOf (wasGranted tries) ticket = ticket .steps ≡ 2 * countAsked (ticket .asked) + ticket .waits
 StepsOf (wasStale word tries) ticket = Unit {0}
+StepsOf (wasSeen values) ticket = ticket .steps ≡ 2 * countAsked (ticket .asked) + ticket .waits
 
 -- A last answer's tries are the steps answered since Standing, that one included, up to the stop.
 abbrev pub TriesRight : Ended → Type 0
-TriesRight end = (triesIn (end .last) ≡ min (end .ticket .steps) mostTries) × StepsOf (end .last) (end .ticket)
+TriesRight end = TellsTries (end .last) (min (end .ticket .steps) mostTries) × StepsOf (end .last) (end .ticket)
 
 abbrev pub Every : {A : Type 0} → (A → Type 0) → List A → Type 0
 Every P [] = Unit {0}
@@ -127,7 +161,7 @@ plainAfter calls = play (orderOf calls)
 abbrev pub bookAfter : List Call → Words
 bookAfter calls = run calls .end .book
 
--- Of a list of calls: the order of what was heard is one of whole edits and looks, done one after another on the plain book.
+-- Of a list of calls: the order of what was heard is one of whole edits, looks and views, done one after another on the plain book.
 pub record Linearizable (calls : List Call) : Type 0 where
   -- Every ticket decided as granted succeeds on the plain book at its turn, and every one decided as stale doesn't.
   pub granted-succeed : (before after : List Event) (verdict : Verdict) (edit : Edit)
@@ -137,14 +171,18 @@ pub record Linearizable (calls : List Call) : Type 0 where
   pub looks-agree : (before after : List Event) (word value : ℕ)
       → orderOf calls ≡ before ++ (looked word value ∷ after)
       → value ≡ wordOf (play before) word
+  -- Every finished view shows the plain book's words at its turn, which is that of its last claim.
+  pub views-agree : (before after : List Event) (words values : List ℕ)
+      → orderOf calls ≡ before ++ (seen words values ∷ after)
+      → values ≡ map (wordOf (play before)) words
   -- Every word that no ticket holds is the plain book's.
   pub words-agree : (word : ℕ)
       → word < wordsInBook
       → ((team : ℕ) → ¬ HeldBy (heardOn calls) team word)
       → readOf (bookAfter calls) word ≡ wordOf (plainAfter calls) word
-  -- A ticket's last answer, once it has come, is Granted if its edit succeeded and Stale if not; no ticket is decided twice or ends undecided.
+  -- A ticket's last answer, once it has come, is Granted if its edit succeeded and Stale if not, a view's the values; no ticket is decided twice or ends undecided.
   pub last-answers : Every EndedRight (ended (heardOn calls))
-  -- A ticket still standing is decided at most once, and Found named the word that differed.
+  -- A ticket still standing is decided at most once, and Found named the word that differed; a view never is.
   pub decided-once : (team : ℕ) → StandingRight (notesOn (heardOn calls) .tickets team)
   -- The counts of all passages sum to granted adds less granted strikes.
   pub counts-add-up : legsInBook (plainAfter calls) + grantedOf strikesIn (orderOf calls) ≡ grantedOf addsIn (orderOf calls)

@@ -1,42 +1,68 @@
--- "A ticket's edit is the edit frame that opened it …": the order, the tickets that ended, and what is held, from frames and answers alone.
+-- "A ticket's edit is the edit frame that opened it …", and a view is the frame that named its words: the order, the tickets that ended, and what is held, from frames and answers alone.
 use Prim.Native.Nat.{ℕ, _+_}
 use mathlib.Core.Path.{_≡_}
-use mathlib.Core.List.{List, [], _∷_, _++_}
+use mathlib.Core.List.{List, [], _∷_, _++_, map}
 use mathlib.Core.Bool.{Bool, true, false, cond, not}
 use mathlib.Core.Option.{Option, none, some}
 use lib.Dec.{eqb}
-use Rattle.words.specs.Tests.{allHold, someHolds}
-use Rattle.legs.specs.Positions.{occurs}
-use Rattle.tickets.specs.declared.Target.{Target}
+use lib.ListN.{length, set}
+use Rattle.words.specs.Tests.{allHold, someHolds, occurs}
+use Rattle.tickets.specs.declared.Values.{Values}
 use Rattle.tickets.specs.declared.StepAnswer.{StepAnswer}
-use Rattle.tickets.specs.declared.StepAnswer.the-variants.{Claimed, Waiting, Found, Put, Returned, Granted, Stale}
+use Rattle.tickets.specs.declared.StepAnswer.the-variants.{Claimed, Waiting, Found, Put, Returned, Granted, Stale, Seen}
 use Rattle.tickets.specs.declared.LookAnswer.{LookAnswer}
 use Rattle.tickets.specs.declared.LookAnswer.the-variants.{Value, Held}
 use Rattle.edits.specs.declared.Edit.{Edit}
 use Rattle.edits.specs.Opened.{storedTargets, targetCount}
-use Rattle.frames.specs.declared.Request.{Request}
-use Rattle.frames.specs.declared.Request.the-variants.{Open, Step, Look}
+use Rattle.edits.specs.Views.{claimedWords}
+use Rattle.frames.specs.Request.{Request, Open, Step, Look, View}
 use Rattle.frames.specs.declared.Answer.{Answer}
 use Rattle.frames.specs.declared.Answer.the-variants as Answer
 use Rattle.frames.specs.Requests.{requestIn}
+use Rattle.frames.specs.Answers.{valuesShown}
 use Rattle.calls.specs.Run.{Call, framed, Heard, answerHeard}
 
 pub data Verdict : Type 0 where
   granted stale : Verdict
 
--- What has a place in the order: a ticket's edit, decided as granted or as stale; a look at a word, with the value it gave.
+-- What has a place in the order: a ticket's edit, decided as granted or as stale; a look at a word, with the value it gave; a view that is
+-- finished, with the words it named and their values. A view that has claimed all its words reserves its place until it is finished.
 pub data Event : Type 0 where
   decided : Verdict → Edit → Event
   looked : (word value : ℕ) → Event
+  seen : (words values : List ℕ) → Event
+  reserved : (team : ℕ) → Event
 
--- A decision of a ticket: what it was, and the order before it.
+-- "An unfinished one has no place": a place that is only reserved is left out.
+unfoldable pub finished : List Event → List Event
+finished [] = []
+finished (decided verdict edit ∷ events) = decided verdict edit ∷ finished events
+finished (looked word value ∷ events) = looked word value ∷ finished events
+finished (seen words values ∷ events) = seen words values ∷ finished events
+finished (reserved team ∷ events) = finished events
+
+-- What a ticket was opened for: an edit, or a view of these words, as named.
+pub data Asked : Type 0 where
+  anEdit : Edit → Asked
+  aView : (words : List ℕ) → Asked
+
+-- Its words in the order in which they are claimed, and how many targets it has.
+abbrev pub wordsAsked : Asked → List ℕ
+wordsAsked (anEdit edit) = map (λ target. target .word) (storedTargets edit)
+wordsAsked (aView words) = claimedWords words
+
+abbrev pub countAsked : Asked → ℕ
+countAsked (anEdit edit) = targetCount edit
+countAsked (aView words) = length words
+
+-- A decision of an edit's ticket: what it was, and the order before it.
 pub record Decision : Type 0 where
   pub verdict : Verdict
   pub before : List Event
 
 -- What has been heard of a ticket since its Standing.
 pub record Noted : Type 0 where
-  pub edit : Edit
+  pub asked : Asked
   -- the k of each Claimed k, and of each Put k and Returned k, the latest first
   pub claimed : List ℕ
   pub released : List ℕ
@@ -47,11 +73,14 @@ pub record Noted : Type 0 where
   pub found : Option ℕ
   -- every decision, the latest first
   pub decisions : List Decision
+  -- of a view, the order before its last claim
+  pub place : Option (List Event)
 
--- The last answer of a ticket: Granted with its tries, or Stale with the word it named and its tries.
+-- The last answer of a ticket: Granted with its tries, Stale with the word it named and its tries, or Seen with the values.
 pub data Last : Type 0 where
   wasGranted : (tries : ℕ) → Last
   wasStale : (word tries : ℕ) → Last
+  wasSeen : (values : List ℕ) → Last
 
 -- A ticket whose last answer has come: what was heard of it, and that answer.
 pub record Ended : Type 0 where
@@ -59,8 +88,8 @@ pub record Ended : Type 0 where
   pub last : Last
 
 -- What a bystander has written down: the order so far, each team's ticket, the tickets that ended, and how often an answer came out
--- of turn: a Standing over a ticket still noted or with another number of targets, a step's answer where no ticket is noted, an answer
--- that does not fit its frame, or bytes that are no answer.
+-- of turn: a Standing over a ticket still noted or with another number of targets, a step's answer where no ticket is noted or that its
+-- ticket can't get, an answer that does not fit its frame, or bytes that are no answer.
 pub record Notes : Type 0 where
   pub order : List Event
   pub tickets : ℕ → Option Noted
@@ -81,6 +110,10 @@ retold tickets team ticket other = cond (eqb other team) ticket (tickets other)
 abbrev pub noteEvent : Notes → Event → Notes
 noteEvent n event = notes (n .order ++ (event ∷ [])) (n .tickets) (n .ended) (n .outOfTurn)
 
+-- A place that was reserved, filled.
+abbrev pub fillPlace : Notes → ℕ → Event → Notes
+fillPlace n at event = notes (set (n .order) at event) (n .tickets) (n .ended) (n .outOfTurn)
+
 abbrev pub noteTicket : Notes → ℕ → Noted → Notes
 noteTicket n team ticket = notes (n .order) (retold (n .tickets) team (some ticket)) (n .ended) (n .outOfTurn)
 
@@ -90,69 +123,89 @@ noteEnd n team end = notes (n .order) (retold (n .tickets) team none) (n .ended 
 abbrev pub noteOutOfTurn : Notes → Notes
 noteOutOfTurn n = notes (n .order) (n .tickets) (n .ended) (n .outOfTurn + 1)
 
--- A ticket noted: at Standing; with one more Claimed k; one more Put k or Returned k; one more Waiting; one more step; Found; one more decision.
-abbrev pub noted : Edit → List ℕ → List ℕ → ℕ → ℕ → Option ℕ → List Decision → Noted
-noted edit claimed released steps waits found decisions =
-    record { edit = edit; claimed = claimed; released = released; steps = steps; waits = waits; found = found; decisions = decisions }
+-- A ticket noted: at Standing; with one more Claimed k; one more Put k or Returned k; one more Waiting; one more step; Found; one more decision; its place.
+abbrev pub noted : Asked → List ℕ → List ℕ → ℕ → ℕ → Option ℕ → List Decision → Option (List Event) → Noted
+noted asked claimed released steps waits found decisions place =
+    record { asked = asked; claimed = claimed; released = released; steps = steps; waits = waits; found = found; decisions = decisions; place = place }
 
-abbrev pub atStanding : Edit → Noted
-atStanding edit = noted edit [] [] 0 0 none []
+abbrev pub atStanding : Asked → Noted
+atStanding asked = noted asked [] [] 0 0 none [] none
 
 abbrev pub withClaimed : ℕ → Noted → Noted
-withClaimed k t = noted (t .edit) (k ∷ t .claimed) (t .released) (t .steps) (t .waits) (t .found) (t .decisions)
+withClaimed k t = noted (t .asked) (k ∷ t .claimed) (t .released) (t .steps) (t .waits) (t .found) (t .decisions) (t .place)
 
 abbrev pub withReleased : ℕ → Noted → Noted
-withReleased k t = noted (t .edit) (t .claimed) (k ∷ t .released) (t .steps) (t .waits) (t .found) (t .decisions)
+withReleased k t = noted (t .asked) (t .claimed) (k ∷ t .released) (t .steps) (t .waits) (t .found) (t .decisions) (t .place)
 
 abbrev pub withWait : Noted → Noted
-withWait t = noted (t .edit) (t .claimed) (t .released) (t .steps) (t .waits + 1) (t .found) (t .decisions)
+withWait t = noted (t .asked) (t .claimed) (t .released) (t .steps) (t .waits + 1) (t .found) (t .decisions) (t .place)
 
 abbrev pub withStep : Noted → Noted
-withStep t = noted (t .edit) (t .claimed) (t .released) (t .steps + 1) (t .waits) (t .found) (t .decisions)
+withStep t = noted (t .asked) (t .claimed) (t .released) (t .steps + 1) (t .waits) (t .found) (t .decisions) (t .place)
 
 abbrev pub withFound : ℕ → Noted → Noted
-withFound word t = noted (t .edit) (t .claimed) (t .released) (t .steps) (t .waits) (some word) (t .decisions)
+withFound word t = noted (t .asked) (t .claimed) (t .released) (t .steps) (t .waits) (some word) (t .decisions) (t .place)
 
 abbrev pub withDecision : Verdict → List Event → Noted → Noted
 withDecision verdict before t =
-    noted (t .edit) (t .claimed) (t .released) (t .steps) (t .waits) (t .found) (record { verdict = verdict; before = before } ∷ t .decisions)
+    noted (t .asked) (t .claimed) (t .released) (t .steps) (t .waits) (t .found) (record { verdict = verdict; before = before } ∷ t .decisions) (t .place)
+
+abbrev pub withPlace : List Event → Noted → Noted
+withPlace before t = noted (t .asked) (t .claimed) (t .released) (t .steps) (t .waits) (t .found) (t .decisions) (some before)
 
 abbrev pub endedBy : Noted → Last → Ended
 endedBy ticket last = record { ticket = ticket; last = last }
 
--- The ticket is decided now: its edit has its place in the order.
-abbrev pub decide : Notes → ℕ → Verdict → Noted → Notes
-decide n team verdict ticket = noteEvent (noteTicket n team (withDecision verdict (n .order) ticket)) (decided verdict (ticket .edit))
+-- An edit is decided now: it has its place in the order. A view is never decided: such an answer is out of turn.
+abbrev pub decide : Notes → ℕ → Verdict → Noted → Asked → Notes
+decide n team verdict ticket (anEdit edit) = noteEvent (noteTicket n team (withDecision verdict (n .order) ticket)) (decided verdict edit)
+decide n team verdict ticket (aView words) = noteOutOfTurn n
 
--- "decided as granted at the step answered Claimed with the number of its edit's targets",
+-- The last claim: an edit is "decided as granted at the step answered Claimed with the number of its edit's targets"; "a finished view takes its place
+-- at its last claim", and reserves it here.
+abbrev pub hearAllClaimed : Notes → ℕ → Noted → Asked → Notes
+hearAllClaimed n team ticket (anEdit edit) = decide n team granted ticket (anEdit edit)
+hearAllClaimed n team ticket (aView words) = noteEvent (noteTicket n team (withPlace (n .order) ticket)) (reserved team)
+
 abbrev pub hearClaimed : Notes → ℕ → Noted → ℕ → Notes
 hearClaimed n team ticket k =
-    cond (eqb k (targetCount (ticket .edit))) (decide n team granted (withClaimed k ticket)) (noteTicket n team (withClaimed k ticket))
+    cond (eqb k (countAsked (ticket .asked))) (hearAllClaimed n team (withClaimed k ticket) (ticket .asked)) (noteTicket n team (withClaimed k ticket))
 
 -- "and as stale at Found, or at Stale with no Found before it in that ticket".
-abbrev pub hearStale : Notes → ℕ → Noted → Option ℕ → Last → Notes
-hearStale n team ticket none last =
-    noteEnd (noteEvent n (decided stale (ticket .edit))) team (endedBy (withDecision stale (n .order) ticket) last)
-hearStale n team ticket (some word) last = noteEnd n team (endedBy ticket last)
+abbrev pub hearStale : Notes → ℕ → Noted → Asked → Option ℕ → Last → Notes
+hearStale n team ticket (anEdit edit) none last =
+    noteEnd (noteEvent n (decided stale edit)) team (endedBy (withDecision stale (n .order) ticket) last)
+hearStale n team ticket (anEdit edit) (some word) last = noteEnd n team (endedBy ticket last)
+hearStale n team ticket (aView words) found last = noteOutOfTurn n
+
+-- A view is finished: its place is filled. One that has reserved none, or an edit, can't get this answer.
+abbrev pub hearSeen : Notes → ℕ → Noted → Asked → Option (List Event) → List ℕ → Notes
+hearSeen n team ticket (aView words) (some before) values = noteEnd (fillPlace n (length before) (seen words values)) team (endedBy ticket (wasSeen values))
+hearSeen n team ticket (aView words) none values = noteOutOfTurn n
+hearSeen n team ticket (anEdit edit) place values = noteOutOfTurn n
 
 abbrev pub hearStepAnswer : Notes → ℕ → Noted → StepAnswer → Notes
 hearStepAnswer n team ticket (Claimed k) = hearClaimed n team ticket k
 hearStepAnswer n team ticket (Waiting word) = noteTicket n team (withWait ticket)
-hearStepAnswer n team ticket (Found word) = decide n team stale (withFound word ticket)
+hearStepAnswer n team ticket (Found word) = decide n team stale (withFound word ticket) (ticket .asked)
 hearStepAnswer n team ticket (Put k) = noteTicket n team (withReleased k ticket)
 hearStepAnswer n team ticket (Returned k) = noteTicket n team (withReleased k ticket)
 hearStepAnswer n team ticket (Granted tries) = noteEnd n team (endedBy ticket (wasGranted tries))
-hearStepAnswer n team ticket (Stale word tries) = hearStale n team ticket (ticket .found) (wasStale word tries)
+hearStepAnswer n team ticket (Stale word tries) = hearStale n team ticket (ticket .asked) (ticket .found) (wasStale word tries)
+hearStepAnswer n team ticket (Seen values) = hearSeen n team ticket (ticket .asked) (ticket .place) (valuesShown values)
 
 -- A step's answer, for a team whose ticket is noted or not.
 abbrev pub hearStep : Notes → ℕ → Option Noted → StepAnswer → Notes
 hearStep n team none answer = noteOutOfTurn n
 hearStep n team (some ticket) answer = hearStepAnswer n team (withStep ticket) answer
 
--- An edit answered Standing opens a ticket.
-abbrev pub hearStanding : Notes → ℕ → Option Noted → Edit → Notes
-hearStanding n team none edit = noteTicket n team (atStanding edit)
-hearStanding n team (some ticket) edit = noteOutOfTurn (noteTicket n team (atStanding edit))
+-- An edit or a view answered Standing, with the number of its targets, opens a ticket.
+abbrev pub hearStanding : Notes → ℕ → Option Noted → Asked → Notes
+hearStanding n team none asked = noteTicket n team (atStanding asked)
+hearStanding n team (some ticket) asked = noteOutOfTurn (noteTicket n team (atStanding asked))
+
+abbrev pub hearOpened : Notes → ℕ → Asked → ℕ → Notes
+hearOpened n team asked targets = cond (eqb targets (countAsked asked)) (hearStanding n team (n .tickets team) asked) (noteOutOfTurn n)
 
 -- A look is decided at Value.
 abbrev pub hearLook : Notes → ℕ → LookAnswer → Notes
@@ -161,7 +214,7 @@ hearLook n word Held = n
 
 -- "Nothing else has a place in the order, and every refusal is passed over." An answer that does not fit its frame is out of turn.
 abbrev pub hearRequest : Notes → Request → Answer → Notes
-hearRequest n (Open team edit) (Answer.Standing targets) = cond (eqb targets (targetCount edit)) (hearStanding n team (n .tickets team) edit) (noteOutOfTurn n)
+hearRequest n (Open team edit) (Answer.Standing targets) = hearOpened n team (anEdit edit) targets
 hearRequest n (Open team edit) (Answer.Step answer) = noteOutOfTurn n
 hearRequest n (Open team edit) (Answer.Look answer) = noteOutOfTurn n
 hearRequest n (Open team edit) (Answer.Refused refusal) = n
@@ -173,6 +226,10 @@ hearRequest n (Look word) (Answer.Standing targets) = noteOutOfTurn n
 hearRequest n (Look word) (Answer.Step answer) = noteOutOfTurn n
 hearRequest n (Look word) (Answer.Look answer) = hearLook n word answer
 hearRequest n (Look word) (Answer.Refused refusal) = n
+hearRequest n (View team many words) (Answer.Standing targets) = hearOpened n team (aView words) targets
+hearRequest n (View team many words) (Answer.Step answer) = noteOutOfTurn n
+hearRequest n (View team many words) (Answer.Look answer) = noteOutOfTurn n
+hearRequest n (View team many words) (Answer.Refused refusal) = n
 
 -- What was heard of a call; bytes that are no answer are out of turn.
 abbrev pub hearAnswer : Notes → Call → Option Answer → Notes
@@ -188,7 +245,7 @@ notesOn heard = notesFrom noNotes heard
 
 -- The order of what was heard. Its type has neither the book nor the tickets in it.
 abbrev pub order : List Heard → List Event
-order heard = notesOn heard .order
+order heard = finished (notesOn heard .order)
 
 -- The tickets whose last answer has come.
 abbrev pub ended : List Heard → List Ended
@@ -198,15 +255,15 @@ ended heard = notesOn heard .ended
 abbrev pub holdsTarget : Noted → ℕ → Bool
 holdsTarget ticket k = allHold (occurs k (ticket .claimed) ∷ not (occurs k (ticket .released)) ∷ [])
 
--- It holds a word that is one of its targets, the first of which is the k-th.
-abbrev pub holdsAmong : Noted → ℕ → ℕ → List Target → Bool
+-- It holds a word that is one of its own, the first of which is the k-th.
+abbrev pub holdsAmong : Noted → ℕ → ℕ → List ℕ → Bool
 holdsAmong ticket word k [] = false
-holdsAmong ticket word k (target ∷ targets) =
-    someHolds (allHold (eqb word (target .word) ∷ holdsTarget ticket k ∷ []) ∷ holdsAmong ticket word (k + 1) targets ∷ [])
+holdsAmong ticket word k (first ∷ later) =
+    someHolds (allHold (eqb word first ∷ holdsTarget ticket k ∷ []) ∷ holdsAmong ticket word (k + 1) later ∷ [])
 
 abbrev pub holdsWord : Option Noted → ℕ → Bool
 holdsWord none word = false
-holdsWord (some ticket) word = holdsAmong ticket word 1 (storedTargets (ticket .edit))
+holdsWord (some ticket) word = holdsAmong ticket word 1 (wordsAsked (ticket .asked))
 
 unfoldable pub holds : List Heard → ℕ → ℕ → Bool
 holds heard team word = holdsWord (notesOn heard .tickets team) word

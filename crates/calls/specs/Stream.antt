@@ -101,7 +101,7 @@ pub record StreamRight (shared : Shared) (input out : Bytes) (result : Streamed 
 abbrev pub StreamIsRun : Type 0
 StreamIsRun = (words : Words) (tickets : Tickets) (input out : Bytes) → length words ≡ wordsInBook → StreamRight (sharing words tickets) input out (streamOf words tickets input out)
 
--- Room for every answer: a frame has at least two bytes, an answer at most twelve.
+-- Room for every answer: a frame has at least two bytes, an answer at most 52.
 abbrev pub Roomy : Bytes → Bytes → Type 0
 Roomy input out = longestAnswer * length input ≤ 2 * length out
 

@@ -8,20 +8,24 @@ use Rattle.words.specs.Words.{Words, wordsInBook, teamCount}
 use Rattle.tickets.specs.declared.Ticket.{Ticket}
 use Rattle.tickets.specs.declared.Tickets.{Tickets}
 use Rattle.tickets.specs.declared.Stepped.{Stepped}
-use Rattle.tickets.specs.Tickets.{ticketOf, withTicket, hasTicket, wellMade}
-use Rattle.tickets.specs.Steps.{afterAnswer, AnswerFits, stepOf, lookOf}
-use Rattle.edits.specs.declared.Edit.{Edit}
+use Rattle.tickets.specs.Tickets.{ticketOf, withTicket, hasTicket, isView, wellMade}
+use Rattle.tickets.specs.Steps.{asStep, afterAnswer, AnswerFits, stepOf, lookOf}
+use Rattle.edits.specs.declared.View.{View}
 use Rattle.edits.specs.Opened.{targetCount, openedTicket}
+use Rattle.edits.specs.Views.{wordsNamed, openedView}
 use Rattle.frames.specs.declared.Answer.{Answer}
 use Rattle.frames.specs.declared.Answer.the-variants as Answer
 use Rattle.frames.specs.declared.Header.{Header}
 use Rattle.frames.specs.declared.Header.the-variants as Header
 use Rattle.frames.specs.declared.EditRead.{EditRead}
 use Rattle.frames.specs.declared.EditRead.the-variants as EditRead
+use Rattle.frames.specs.declared.Reading.{Reading}
+use Rattle.frames.specs.declared.Reading.the-variants as Reading
+use Rattle.frames.specs.declared.ViewRead.{ViewRead}
 use Rattle.frames.specs.Numbers.{Bytes, number16}
-use Rattle.frames.specs.Requests.{partAfterKind, addKind, stepKind, lookKind, lengthOfKind, teamIn, editOfKind}
+use Rattle.frames.specs.Requests.{partAfterKind, addKind, stepKind, lookKind, viewKind, lengthOfKind, teamIn, editOfKind, viewWordsIn}
 use Rattle.frames.specs.Answers.{longestAnswer}
-use Rattle.frames.specs.Fields.{headerOf, editRead, Whole}
+use Rattle.frames.specs.Fields.{headerOf, editRead, viewRead, ViewFields, FieldsOf, Whole}
 use Rattle.calls.specs.declared.Aim.{Aim}
 use Rattle.calls.specs.declared.Aim.the-variants as Aim
 use Rattle.calls.specs.declared.Outcome.{Outcome}
@@ -43,7 +47,7 @@ aimOf frame = aimBy frame (headerOf frame)
 abbrev pub AimKnown : Bytes → Aim → Type 0
 AimKnown frame (Aim.Refused number) = Unit {0}
 AimKnown frame Aim.Look = Whole frame lookKind
-AimKnown frame (Aim.Team kind team) = Whole frame kind × (kind < lookKind) × (team < teamCount)
+AimKnown frame (Aim.Team kind team) = Whole frame kind × (kind ≡ lookKind → ⊥) × (team < teamCount)
 
 -- A team's number is below 16.
 abbrev pub SlotKnown : Aim → Type 0
@@ -55,8 +59,9 @@ SlotKnown (Aim.Team kind team) = team < teamCount
 pub record TeamFrame (words : Words) (part : Bytes) (kind team : ℕ) : Type 0 where
   pub book : length words ≡ wordsInBook
   pub first : addKind ≤ kind
-  pub last : kind ≤ stepKind
-  pub fields : length part ≡ lengthOfKind kind - 2
+  pub last : kind ≤ viewKind
+  pub no-look : kind ≡ lookKind → ⊥
+  pub fields : FieldsOf kind part
   pub team-known : team < teamCount
 
 -- The slot that a frame uses: its team's, else the first, which it leaves as it is.
@@ -72,6 +77,10 @@ settled ticket answer = record { ticket = ticket; answer = answer }
 abbrev pub lookAnswer : Words → ℕ → Answer
 lookAnswer words word = cond (ltb word wordsInBook) (Answer.Look (lookOf words word)) (Answer.Refused 10)
 
+-- As an outcome.
+abbrev pub lookOutcome : Words → ℕ → Outcome
+lookOutcome words word = cond (ltb word wordsInBook) (Outcome.Looked (lookOf words word)) (Outcome.Refused 10)
+
 unfoldable pub lookSettled : Words → Ticket → ℕ → Settled
 lookSettled words ticket word = settled ticket (lookAnswer words word)
 
@@ -80,20 +89,48 @@ unfoldable pub openSettled : Ticket → EditRead → Settled
 openSettled ticket (EditRead.Is edit) = settled (openedTicket edit) (Answer.Standing (targetCount edit))
 openSettled ticket (EditRead.Refused number) = settled ticket (Answer.Refused number)
 
+-- A view of a team without a ticket, likewise.
+abbrev pub readingSettled : Ticket → View → Reading → Settled
+readingSettled ticket view Reading.Is = settled (openedView (wordsNamed view)) (Answer.Standing (view .n))
+readingSettled ticket view (Reading.Refused number) = settled ticket (Answer.Refused number)
+
+unfoldable pub viewSettled : Ticket → ViewRead → Settled
+viewSettled ticket read = readingSettled ticket (read .view) (read .reading)
+
 abbrev pub stepSettled : Stepped × Words → Settled × Words
 stepSettled result = (settled (result .0 .ticket) (Answer.Step (result .0 .answer)), result .1)
 
--- What an outcome makes of the ticket in its slot, and its answer, by the part of the frame after its kind.
-abbrev pub outcomeSettled : Ticket → Bytes → Outcome → Settled
-outcomeSettled ticket part (Outcome.Left answer) = settled ticket answer
-outcomeSettled ticket part (Outcome.Stepped answer) = settled (afterAnswer ticket answer) (Answer.Step answer)
-outcomeSettled ticket part (Outcome.Edit kind) = openSettled ticket (editRead (editOfKind kind part))
+-- A frame whose slot gets a ticket made anew: a view's step, a view opened, or an edit.
+unfoldable pub anewSettled : Words → Ticket → Bytes → ℕ → ℕ → Settled × Words
+anewSettled words ticket part kind team =
+    cond (eqb kind stepKind) (stepSettled (stepOf words ticket team))
+    (cond (eqb kind viewKind) (viewSettled ticket (viewRead (number16 part 2) (viewWordsIn part)), words)
+    (openSettled ticket (editRead (editOfKind kind part)), words))
 
--- What is known of an outcome: a step's answer fits the counts of its ticket; an edit is of one of the four kinds, with its fields.
+-- What an outcome makes of the ticket in its slot and of the words, and its answer, by the part of the frame after its kind.
+abbrev pub outcomeSettled : Words → Ticket → Bytes → Outcome → Settled × Words
+outcomeSettled words ticket part (Outcome.Refused number) = (settled ticket (Answer.Refused number), words)
+outcomeSettled words ticket part (Outcome.Looked answer) = (settled ticket (Answer.Look answer), words)
+outcomeSettled words ticket part (Outcome.Stepped answer) = (settled (afterAnswer ticket answer) (Answer.Step (asStep answer)), words)
+outcomeSettled words ticket part (Outcome.Anew kind team) = anewSettled words ticket part kind team
+
+-- What is known of a view to be stepped, and of an edit to be opened, which is of one of the four kinds and has its fields.
+pub record ViewStands (ticket : Ticket) (team : ℕ) : Type 0 where
+  pub made : wellMade ticket ≡ true
+  pub view : isView (ticket .phase) ≡ true
+  pub team-known : team < teamCount
+
+pub record EditFields (part : Bytes) (kind : ℕ) : Type 0 where
+  pub first : addKind ≤ kind
+  pub last : kind < stepKind
+  pub long : length part ≡ lengthOfKind kind - 2
+
+-- What is known of an outcome: a step's answer fits the counts of its ticket; a ticket can be made anew.
 abbrev pub OutcomeKnown : Ticket → Bytes → Outcome → Type 0
-OutcomeKnown ticket part (Outcome.Left answer) = Unit {0}
+OutcomeKnown ticket part (Outcome.Refused number) = Unit {0}
+OutcomeKnown ticket part (Outcome.Looked answer) = Unit {0}
 OutcomeKnown ticket part (Outcome.Stepped answer) = AnswerFits ticket answer
-OutcomeKnown ticket part (Outcome.Edit kind) = (addKind ≤ kind) × (kind < stepKind) × (length part ≡ lengthOfKind kind - 2)
+OutcomeKnown ticket part (Outcome.Anew kind team) = cond (eqb kind stepKind) (ViewStands ticket team) (cond (eqb kind viewKind) (ViewFields part) (EditFields part kind))
 
 -- A slot passes: a ticket that it has is well made (it is not `badlyMade`). A table passes, if all its slots do.
 abbrev pub SlotWellMade : Ticket → Type 0
@@ -110,14 +147,14 @@ unfoldable pub wellMadeFrom : ℕ → ℕ → Tickets → Bool
 wellMadeFrom k zero tickets = true
 wellMadeFrom k (suc more) tickets = cond (slotWellMade (ticketOf tickets k)) (wellMadeFrom (k + 1) more tickets) false
 
--- A team's frame: refusals 7, 8 and 9 by its ticket and kind, else a step or an edit.
+-- A team's frame: refusals 7, 8 and 9 by its ticket and kind, else a step, a view or an edit.
 unfoldable pub teamSettled : Words → Ticket → Bytes → ℕ → ℕ → Settled × Words
 teamSettled words ticket part kind team =
     cond (hasTicket (ticket .phase))
     (cond (wellMade ticket)
     (cond (eqb kind stepKind) (stepSettled (stepOf words ticket team)) (settled ticket (Answer.Refused 8), words))
     (settled ticket (Answer.Refused 7), words))
-    (cond (eqb kind stepKind) (settled ticket (Answer.Refused 9), words) (openSettled ticket (editRead (editOfKind kind part)), words))
+    (cond (eqb kind stepKind) (settled ticket (Answer.Refused 9), words) (anewSettled words ticket part kind team))
 
 -- What an aimed frame makes of the ticket in its slot and of the words, and its answer.
 unfoldable pub settledBy : Words → Ticket → Bytes → Aim → Settled × Words

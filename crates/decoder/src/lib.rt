@@ -1,12 +1,17 @@
-// Each edit's fields, read from the part of the frame after its kind. A field out of range ends the reading there.
+// Each edit's and a view's fields, read from the part of the frame after its kind. A field out of range ends the reading there.
 ghost use mathlib.Core.Path.{_≡_};
 ghost use mathlib.Core.List.{[], _∷_};
-ghost use Prim.Native.Nat.{_-_, _≤_};
-ghost use lib.ListN.{length};
+ghost use Prim.Native.Nat.{_+_, _*_, _-_, _≤_};
+ghost use lib.ListN.{length, take};
+ghost use Rattle.words.specs.Words.{mostTargets};
+ghost use Rattle.tickets.specs.Tickets.{padded};
 ghost use Rattle.edits.specs.declared.Edit.the-variants as Edit;
+ghost use Rattle.edits.specs.Views.{allInBook};
 ghost use Rattle.edits.specs.Ranges.{sameLeg, namedTwice};
-ghost use Rattle.frames.specs.Requests.{addKind, correctKind, strikeKind, moveKind, lengthOfKind, addIn, correctIn, strikeIn, moveIn, editOfKind};
-ghost use Rattle.frames.specs.Fields.{editRead};
+ghost use Rattle.frames.specs.Requests.{addKind, correctKind, strikeKind, moveKind, lengthOfKind, addIn, correctIn, strikeIn, moveIn, editOfKind, viewWordsIn};
+ghost use Rattle.frames.specs.Numbers.{number16};
+ghost use Rattle.frames.specs.Fields.{editRead, ViewFields, readAs, viewRead};
+ghost use Rattle.frames.specs.declared.Reading.the-variants as Reading;
 use crate::fields::field_from_one;
 use crate::fields::field_up_to;
 use crate::fields::measure_field;
@@ -18,12 +23,17 @@ use edits::Correct;
 use edits::Edit;
 use edits::Move;
 use edits::Strike;
+use edits::View;
 use frames::EditRead;
 use frames::Field;
+use frames::Frame;
 use frames::Kind;
 use frames::MeasureField;
+use frames::Reading;
 use frames::Refusal;
 use frames::TakenField;
+use frames::ViewRead;
+use frames::numbers::read16;
 use words::Limits;
 
 pub mod fields; // one field, in range or out of it
@@ -209,5 +219,70 @@ pub fn read_edit(kind: u16, part: &[u8]) -> EditRead
         Kind::CORRECT => read_correct(part),
         Kind::STRIKE => read_strike(part),
         _ => read_move(part),
+    }
+}
+
+// The words that a view names, zeros behind them.
+fn named_words(part: &[u8], n: usize) -> [u64; Limits::TARGETS]
+    requires { ⌜ (n ≤ mostTargets) × (length (now part) ≡ 4 + 2 * n) ⌝ }
+    ensures { λ r. ⌜ r ≡ padded (viewWordsIn (now (part .entry))) ⌝ }
+{
+    let mut words = [0u64; Limits::TARGETS];
+    let mut k: usize = 0;
+    while k < n {
+        words[k] = read16(part, 2 * Frame::FIELD + Frame::FIELD * k) as u64;
+        k += 1;
+    }
+    words
+}
+
+// Whether the first n are words of the book.
+fn all_in_book(words: [u64; Limits::TARGETS], n: usize) -> bool
+    requires { ⌜ n ≤ mostTargets ⌝ }
+    ensures { λ r. ⌜ r ≡ allInBook (take n words) ⌝ }
+{
+    let mut k: usize = 0;
+    while k < n {
+        if Limits::WORDS as u64 <= words[k] {
+            return false;
+        }
+        k += 1;
+    }
+    true
+}
+
+// A view refused, with no words.
+fn refused_view(number: u16) -> ViewRead
+    ensures { λ r. ⌜ r ≡ readAs (Reading.Refused number) [] ⌝ }
+{
+    ViewRead {
+        reading: Reading::Refused(number),
+        view: View {
+            n: 0,
+            words: [0; Limits::TARGETS],
+        },
+    }
+}
+
+// team n, then n words.
+pub fn read_view(part: &[u8]) -> ViewRead
+    requires { ⌜ ViewFields (now part) ⌝ }
+    ensures { λ r. ⌜ r ≡ viewRead (number16 (now (part .entry)) 2) (viewWordsIn (now (part .entry))) ⌝ }
+{
+    let n = read16(part, Frame::FIELD);
+    let count = (part.len() - 2 * Frame::FIELD) / Frame::FIELD;
+    if n as usize != count {
+        return refused_view(Refusal::RANGE);
+    }
+    let words = named_words(part, count);
+    if !all_in_book(words, count) {
+        return refused_view(Refusal::RANGE);
+    }
+    if !words::distinct(words, count) {
+        return refused_view(Refusal::REPEATED);
+    }
+    ViewRead {
+        reading: Reading::Is,
+        view: View { n: n, words: words },
     }
 }

@@ -19,6 +19,18 @@ impl Room {
     pub const OUTPUT: usize = 64;
 }
 
+// Words that no value is.
+pub struct Cases {}
+
+impl Cases {
+    pub const HELD: u64 = Limits::HELD;
+
+    // A word that is no team's mark.
+    pub const NOBODYS: u64 = Limits::HELD + Limits::TEAMS as u64;
+
+    pub const LARGEST: u64 = 18446744073709551615;
+}
+
 fn clear(book: &mut [u64]) {
     let mut i: usize = 0;
     while i < book.len() {
@@ -64,6 +76,20 @@ pub fn with_target(mut ticket: Ticket, k: usize, word: u16, quoted: u64, new: u6
     ticket.quoted[k] = quoted;
     ticket.new[k] = new;
     ticket
+}
+
+// A ticket of one target, with no tries.
+pub fn one_target(
+    phase: Phase,
+    n: u16,
+    claimed: u16,
+    done: u16,
+    word: u16,
+    quoted: u64,
+    new: u64,
+) -> Ticket {
+    let ticket = ticket_of(phase, n, claimed, done, 0);
+    with_target(ticket, 0, word, quoted, new)
 }
 
 pub fn lend(mut tickets: Tickets, team: usize, ticket: Ticket) -> Tickets
@@ -117,6 +143,8 @@ fn phase_number(phase: Phase) -> u8 {
         Phase::Claiming => 1,
         Phase::Putting => 2,
         Phase::GivingBack => 3,
+        Phase::Viewing => 4,
+        Phase::Viewed => 5,
     }
 }
 
@@ -260,6 +288,18 @@ pub fn ask(book: &mut [u64; Limits::WORDS], tickets: Tickets, frame: &[u8]) -> T
 pub fn step(book: &mut [u64; Limits::WORDS], tickets: Tickets, team: u8) -> Tickets {
     let frame = [4, 0, 5, 0, team, 0];
     ask(book, tickets, &frame)
+}
+
+pub fn three_steps(book: &mut [u64; Limits::WORDS], tickets: Tickets, team: u8) -> Tickets {
+    let first = step(book, tickets, team);
+    let second = step(book, first, team);
+    step(book, second, team)
+}
+
+// A step of a team that was lent a damaged ticket.
+pub fn damaged(book: &mut [u64; Limits::WORDS], ticket: Ticket) {
+    let tickets = lend(Tickets::fresh(), 3, ticket);
+    step(book, tickets, 3);
 }
 
 pub fn look(book: &mut [u64; Limits::WORDS], tickets: Tickets, word: u8) -> Tickets {

@@ -48,6 +48,8 @@ fn phase(phase: Phase) {
         Phase::Claiming => text(b" claiming"),
         Phase::Putting => text(b" putting"),
         Phase::GivingBack => text(b" giving-back"),
+        Phase::Viewing => text(b" viewing"),
+        Phase::Viewed => text(b" viewed"),
     }
 }
 

@@ -1,9 +1,12 @@
 // An answer's frame, written at the front of the output.
 ghost use mathlib.Core.Path.{_≡_};
 ghost use mathlib.Core.List.{[], _++_};
-ghost use Prim.Native.Nat.{_+_, _≤_};
+ghost use Prim.Native.Nat.{_+_, _≤_, min};
 ghost use lib.ListN.{length};
 ghost use lib.Seq.{sets};
+ghost use Rattle.words.specs.Words.{mostTargets};
+ghost use Rattle.tickets.specs.declared.StepAnswer.the-variants.{Seen};
+ghost use Rattle.tickets.specs.Steps.{asStep};
 ghost use Rattle.frames.specs.declared.Answer.the-variants as Answer;
 ghost use Rattle.frames.specs.Numbers.{bytes16, bytes32, bytes64};
 ghost use Rattle.frames.specs.Requests.{headBytes};
@@ -13,8 +16,11 @@ use frames::Frame;
 use frames::numbers::put16;
 use frames::numbers::put32;
 use frames::numbers::put64;
+use tickets::EditAnswer;
 use tickets::LookAnswer;
 use tickets::StepAnswer;
+use tickets::Values;
+use words::Limits;
 
 // The kinds of the answers.
 struct AnswerKind {}
@@ -41,6 +47,8 @@ impl AnswerKind {
     const HELD: u16 = 137;
 
     const REFUSED: u16 = 138;
+
+    const SEEN: u16 = 139;
 }
 
 // The length and the kind of a frame whose fields take so many bytes. Returns the frame's bytes.
@@ -102,18 +110,70 @@ fn write_bare(out: &mut [u8], kind: u16) -> usize
     put_head(out, kind, 0)
 }
 
+// How many values a view shows: n, and there is room for six.
+fn values_shown(n: u16) -> usize
+    ensures { λ r. ⌜ r ≡ min n mostTargets ⌝ }
+{
+    if (n as usize) < Limits::TARGETS {
+        n as usize
+    } else {
+        Limits::TARGETS
+    }
+}
+
+// A frame with one field of 64 bits for each value that a view shows.
+fn write_values(out: &mut [u8], seen: Values) -> usize
+    requires { ⌜ longestAnswer ≤ length (now out) ⌝ }
+    ensures { λ r. ⌜ (r, now (out .exit)) ≡ written (now (out .entry)) (answerFrame (Answer.Step (Seen seen))) ⌝ }
+{
+    let n = values_shown(seen.n);
+    let values = [
+        seen.first,
+        seen.second,
+        seen.third,
+        seen.fourth,
+        seen.fifth,
+        seen.sixth,
+    ];
+    let count = put_head(out, AnswerKind::SEEN, Frame::VALUE * n);
+    let mut k: usize = 0;
+    while k < n {
+        put64(out, Frame::HEAD + Frame::VALUE * k, values[k]);
+        k += 1;
+    }
+    count
+}
+
+// The answer to an edit's step: what most frames get.
+pub fn write_edit_step(out: &mut [u8], answer: EditAnswer) -> usize
+    requires { ⌜ longestAnswer ≤ length (now out) ⌝ }
+    ensures { λ r. ⌜ ((r, now (out .exit)) ≡ written (now (out .entry)) (answerFrame (Answer.Step (asStep answer)))) × (r ≤ longestAnswer) ⌝ }
+{
+    match answer {
+        EditAnswer::Claimed(many) => write_short(out, AnswerKind::CLAIMED, many),
+        EditAnswer::Waiting(word) => write_short(out, AnswerKind::WAITING, word),
+        EditAnswer::Found(word) => write_short(out, AnswerKind::FOUND, word),
+        EditAnswer::Put(many) => write_short(out, AnswerKind::PUT, many),
+        EditAnswer::Returned(many) => write_short(out, AnswerKind::RETURNED, many),
+        EditAnswer::Granted(tries) => write_long(out, AnswerKind::GRANTED, tries),
+        EditAnswer::Stale(word, tries) => write_short_and_long(out, AnswerKind::STALE, word, tries),
+    }
+}
+
+// A view's last answer has values; every other one is an edit's too.
 fn write_step(out: &mut [u8], answer: StepAnswer) -> usize
     requires { ⌜ longestAnswer ≤ length (now out) ⌝ }
     ensures { λ r. ⌜ (r, now (out .exit)) ≡ written (now (out .entry)) (answerFrame (Answer.Step answer)) ⌝ }
 {
     match answer {
-        StepAnswer::Claimed(many) => write_short(out, AnswerKind::CLAIMED, many),
-        StepAnswer::Waiting(word) => write_short(out, AnswerKind::WAITING, word),
-        StepAnswer::Found(word) => write_short(out, AnswerKind::FOUND, word),
-        StepAnswer::Put(many) => write_short(out, AnswerKind::PUT, many),
-        StepAnswer::Returned(many) => write_short(out, AnswerKind::RETURNED, many),
-        StepAnswer::Granted(tries) => write_long(out, AnswerKind::GRANTED, tries),
-        StepAnswer::Stale(word, tries) => write_short_and_long(out, AnswerKind::STALE, word, tries),
+        StepAnswer::Claimed(many) => write_edit_step(out, EditAnswer::Claimed(many)),
+        StepAnswer::Waiting(word) => write_edit_step(out, EditAnswer::Waiting(word)),
+        StepAnswer::Found(word) => write_edit_step(out, EditAnswer::Found(word)),
+        StepAnswer::Put(many) => write_edit_step(out, EditAnswer::Put(many)),
+        StepAnswer::Returned(many) => write_edit_step(out, EditAnswer::Returned(many)),
+        StepAnswer::Granted(tries) => write_edit_step(out, EditAnswer::Granted(tries)),
+        StepAnswer::Stale(word, tries) => write_edit_step(out, EditAnswer::Stale(word, tries)),
+        StepAnswer::Seen(values) => write_values(out, values),
     }
 }
 

@@ -1,27 +1,28 @@
 -- What is asked for is read back from its frame, which 3, 4 and 5 do not refuse; and what is read from bytes has stations of 16 bits.
 use Prim.Native.Nat.{ℕ, _+_, _*_, _-_, _/_, _%_, _<_, _≤_}
-use mathlib.Core.Path.{_≡_, refl, ap, subst, _∙_}
-use mathlib.Core.List.{[], _∷_, map}
+use mathlib.Core.Path.{_≡_, refl, ap, subst, _∙_, sym}
+use mathlib.Core.List.{List, [], _∷_, map}
 use mathlib.Core.Bool.{Bool, true, false, cond}
 use native.Mathlib.Omega.{arith}
-use borrow.Author.Tests.{ltb-true, le-leb, le-ltb}
+use borrow.Author.Tests.{ltb-true, leb-true, eq-eqb, le-leb, le-ltb}
 use lib.Dec.{eqb, leb, ltb}
+use lib.ListN.{length}
 use lib.IntN.{ℤ, pos, negsuc}
 use Rattle.words.specs.Tests.{allHold, someHolds}
-use Rattle.words.proofs.Tests.{split, join}
+use Rattle.words.proofs.Tests.{AllTrue, split, join}
 use Rattle.legs.specs.declared.Stations.{Stations}
 use Rattle.legs.specs.declared.Measure.{Measure}
 use Rattle.legs.specs.Legs.{lastStation}
 use Rattle.edits.specs.declared.Edit.{Edit}
 use Rattle.edits.specs.declared.Edit.the-variants as Edit
 use Rattle.edits.specs.Ranges.{stationsInRange, editStationsInRange}
-use Rattle.frames.specs.declared.Request.{Request}
-use Rattle.frames.specs.declared.Request.the-variants.{Open, Step, Look}
-use Rattle.frames.specs.Numbers.{Bytes, areBytes, number16, signedOf, fits16}
-use Rattle.frames.specs.Requests.{kindField, partAfterKind, teamIn, addKind, correctKind, strikeKind, stepKind, lookKind, stationsAt, measureAt, addIn, correctIn, strikeIn, moveIn, editOfKind, requestOfKind, requestIn, StationsFit}
+use Rattle.frames.specs.Request.{Request, Open, Step, Look, View}
+use Rattle.frames.specs.Numbers.{Bytes, areBytes, number16, numbers16, signedOf, fits16}
+use Rattle.frames.specs.Requests.{lengthField, kindField, partAfterKind, teamIn, addKind, correctKind, strikeKind, stepKind, lookKind, viewKind, viewWordsIn, stationsAt, measureAt, addIn, correctIn, strikeIn, moveIn, editOfKind, requestOfKind, requestIn, lengthFits, StationsFit}
 use Rattle.frames.specs.Fields.{headerOf}
 use Rattle.frames.specs.Writing.{bitsOf, fields16, measureBytes, editNumbers, editMeasures, signedFits, measureFits, requestFrame, RequestsReadBack, RequestFramesWhole}
-use Rattle.frames.proofs.Bytes.{back16, back32, bytes-after, numbers-fit}
+use Rattle.frames.proofs.Bytes.{back16, back32, bytes-after, numbers-fit, numbers-further16, numbers-back16, length-fields16}
+use Rattle.frames.proofs.Headers.{not-torn, length-due, header-kind, view-even}
 
 -- A signed number that fits has 16 bits, and is that of its bits.
 bits-fit : (clino : ℤ) → signedFits clino ≡ true → bitsOf clino < 65536
@@ -47,6 +48,12 @@ measure-back measure h =
     let distance-back = back32 (measure .distance) (ltb-true (measure .distance) 4294967296 distance) in
     let clino-back = ap signedOf (back16 (bitsOf (measure .clino)) (bits-fit (measure .clino) clino)) ∙ bits-back (measure .clino) clino in
     λ i. record { distance = distance-back i; compass = number-back (measure .compass) compass i; clino = clino-back i }
+
+words-back : (team n : ℕ) (words : List ℕ) → AllTrue (map fits16 words) → viewWordsIn (fields16 (team ∷ n ∷ words)) ≡ words
+words-back team n words h =
+    let part = fields16 (team ∷ n ∷ words) in
+    let many : (length part - 4) / 2 ≡ length words = omega (arith, length-fields16 words) in
+    ap (λ (k : ℕ). numbers16 k part 4) many ∙ numbers-further16 (length words) part 4 0 ∙ numbers-back16 words h
 
 pub requests-read-back : RequestsReadBack
 unfolding requestIn requestOfKind editOfKind requestFrame addIn correctIn strikeIn moveIn
@@ -102,15 +109,26 @@ requests-read-back (Open team (Edit.Move e)) h =
     }))
 requests-read-back (Step team) h = ap Step (number-back team h)
 requests-read-back (Look word) h = ap Look (number-back word h)
+requests-read-back (View team n words) h =
+    let (t, (many, rest)) = split (map fits16 (team ∷ n ∷ words)) h in
+    λ i. View (number-back team t i) (number-back n many i) (words-back team n words rest i)
 
 pub request-frames-whole : RequestFramesWhole
-unfolding headerOf requestFrame someHolds allHold
-request-frames-whole (Open team (Edit.Add e)) = refl
-request-frames-whole (Open team (Edit.Correct e)) = refl
-request-frames-whole (Open team (Edit.Strike e)) = refl
-request-frames-whole (Open team (Edit.Move e)) = refl
-request-frames-whole (Step team) = refl
-request-frames-whole (Look word) = refl
+unfolding headerOf requestFrame someHolds allHold lengthFits
+request-frames-whole (Open team (Edit.Add e)) h = refl
+request-frames-whole (Open team (Edit.Correct e)) h = refl
+request-frames-whole (Open team (Edit.Strike e)) h = refl
+request-frames-whole (Open team (Edit.Move e)) h = refl
+request-frames-whole (Step team) h = refl
+request-frames-whole (Look word) h = refl
+request-frames-whole (View team n words) h =
+    let frame = requestFrame (View team n words) in
+    let (l, (m, u)) = split (leb 1 (length words) ∷ leb (length words) 6 ∷ []) h in
+    let least : 1 ≤ length words = leb-true _ _ l in
+    let most : length words ≤ 6 = leb-true _ _ m in
+    let long = length-fields16 words in
+    let fits = view-even (lengthField frame) (omega arith) (omega arith) ∙ eq-eqb (lengthField frame % 2) 0 (omega arith) in
+    sym (header-kind frame (not-torn frame (omega arith) (omega arith) (omega arith)) refl (length-due frame fits))
 
 -- Stations read from bytes are 16 bits each.
 stations-fit-at : (part : Bytes) (at : ℕ) → areBytes part ≡ true → stationsInRange (stationsAt part at) ≡ true
@@ -133,6 +151,7 @@ abbrev StationsOf : Request → Type 0
 StationsOf (Open team edit) = editStationsInRange edit ≡ true
 StationsOf (Step team) = Unit {0}
 StationsOf (Look word) = Unit {0}
+StationsOf (View team n words) = Unit {0}
 
 request-cond : (test : Bool) (x y : Request) → StationsOf x → StationsOf y → StationsOf (cond test x y)
 request-cond true x y p q = p
@@ -142,7 +161,8 @@ request-stations : (kind : ℕ) (part : Bytes) → areBytes part ≡ true → St
 unfolding requestOfKind
 request-stations kind part h =
     request-cond (eqb kind stepKind) (Step (teamIn part)) _ tt
-    (request-cond (eqb kind lookKind) (Look (number16 part 0)) (Open (teamIn part) (editOfKind kind part)) tt (edit-stations kind part h))
+    (request-cond (eqb kind lookKind) (Look (number16 part 0)) _ tt
+    (request-cond (eqb kind viewKind) (View (teamIn part) (number16 part 2) (viewWordsIn part)) (Open (teamIn part) (editOfKind kind part)) tt (edit-stations kind part h)))
 
 pub stations-fit : StationsFit
 unfolding requestIn

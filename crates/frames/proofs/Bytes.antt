@@ -1,18 +1,21 @@
 -- Numbers in bytes: what is put is read back, the halves of a number, and how large what is read can be.
 use Prim.Native.Nat.{ℕ, zero, suc, _+_, _*_, _-_, _/_, _%_, _<_, _≤_, _^_}
 use mathlib.Core.Path.{_≡_, refl, sym, ap, _∙_}
-use mathlib.Core.List.{[], _∷_}
+use mathlib.Core.List.{List, [], _∷_, _++_, map}
 use mathlib.Core.Bool.{Bool, true, false, cond, false≢true}
 use native.Mathlib.Omega.{arith}
 use native.Mathlib.Nat.{add-mul-mod-self-left}
 use borrow.Author.Tests.{ltb-true, lt-ltb}
 use lib.Dec.{ltb}
-use lib.ListN.{getD, drop}
+use lib.ListN.{length, getD, drop}
+use lib.Seq.{getD-drop}
 use lib.IntN.{pos, negsuc, _-ℤ_}
 use mir.Facts.{toZ-pos}
 use mir.Syntax.{w32}
 use mir.Val.{toZ}
-use Rattle.frames.specs.Numbers.{Bytes, areBytes, bytes16, bytes32, NumbersFit}
+use Rattle.words.proofs.Tests.{AllTrue}
+use Rattle.frames.specs.Numbers.{Bytes, areBytes, number16, number32, number64, numbers16, numbers64, bytes16, bytes32, fields64, fits16, fits64, NumbersFit}
+use Rattle.frames.specs.Writing.{fields16}
 
 -- A number that fits is read back from its bytes.
 pub back16 : (x : ℕ) → x < 65536 → x % 256 + 256 * (x / 256 % 256) ≡ x
@@ -85,3 +88,61 @@ bytes-after (suc many) (byte ∷ bytes) h = bytes-after many bytes (first-byte b
 
 pub numbers-fit : NumbersFit
 numbers-fit bytes h at = omega (arith, byte-at bytes h at, byte-at bytes h (at + 1))
+
+-- A number in what is left of some bytes stands as much further on in all of them.
+further16 : (bytes : Bytes) (before at : ℕ) → number16 bytes (before + at) ≡ number16 (drop before bytes) at
+further16 bytes before at =
+    let next : before + at + 1 ≡ before + (at + 1) = omega arith in
+    simp (getD-drop, next)
+
+further32 : (bytes : Bytes) (before at : ℕ) → number32 bytes (before + at) ≡ number32 (drop before bytes) at
+further32 bytes before at =
+    let next : before + at + 2 ≡ before + (at + 2) = omega arith in
+    λ i. further16 bytes before at i + 65536 * (ap (λ (k : ℕ). number16 bytes k) next ∙ further16 bytes before (at + 2)) i
+
+further64 : (bytes : Bytes) (before at : ℕ) → number64 bytes (before + at) ≡ number64 (drop before bytes) at
+further64 bytes before at =
+    let next : before + at + 4 ≡ before + (at + 4) = omega arith in
+    λ i. further32 bytes before at i + 4294967296 * (ap (λ (k : ℕ). number32 bytes k) next ∙ further32 bytes before (at + 4)) i
+
+pub numbers-further16 : (more : ℕ) (bytes : Bytes) (before at : ℕ) → numbers16 more bytes (before + at) ≡ numbers16 more (drop before bytes) at
+unfolding numbers16
+numbers-further16 zero bytes before at = refl
+numbers-further16 (suc more) bytes before at =
+    let next : before + at + 2 ≡ before + (at + 2) = omega arith in
+    λ i. further16 bytes before at i ∷ (ap (λ (k : ℕ). numbers16 more bytes k) next ∙ numbers-further16 more bytes before (at + 2)) i
+
+pub numbers-further64 : (more : ℕ) (bytes : Bytes) (before at : ℕ) → numbers64 more bytes (before + at) ≡ numbers64 more (drop before bytes) at
+unfolding numbers64
+numbers-further64 zero bytes before at = refl
+numbers-further64 (suc more) bytes before at =
+    let next : before + at + 8 ≡ before + (at + 8) = omega arith in
+    λ i. further64 bytes before at i ∷ (ap (λ (k : ℕ). numbers64 more bytes k) next ∙ numbers-further64 more bytes before (at + 8)) i
+
+-- So many are read.
+pub length-numbers16 : (many : ℕ) (bytes : Bytes) (at : ℕ) → length (numbers16 many bytes at) ≡ many
+unfolding numbers16
+length-numbers16 zero bytes at = refl
+length-numbers16 (suc many) bytes at = ap suc (length-numbers16 many bytes (at + 2))
+
+-- Numbers put one after another are read back, and take two or eight bytes each.
+pub numbers-back16 : (numbers : List ℕ) → AllTrue (map fits16 numbers) → numbers16 (length numbers) (fields16 numbers) 0 ≡ numbers
+unfolding numbers16
+numbers-back16 [] h = refl
+numbers-back16 (number ∷ numbers) h =
+    λ i. back16 number (ltb-true _ _ (h .0)) i ∷ (numbers-further16 (length numbers) (fields16 (number ∷ numbers)) 2 0 ∙ numbers-back16 numbers (h .1)) i
+
+pub numbers-back64 : (numbers : List ℕ) → AllTrue (map fits64 numbers) → numbers64 (length numbers) (fields64 numbers) 0 ≡ numbers
+unfolding numbers64 fields64
+numbers-back64 [] h = refl
+numbers-back64 (number ∷ numbers) h =
+    λ i. back64 number (ltb-true _ _ (h .0)) i ∷ (numbers-further64 (length numbers) (fields64 (number ∷ numbers)) 8 0 ∙ numbers-back64 numbers (h .1)) i
+
+pub length-fields16 : (numbers : List ℕ) → length (fields16 numbers) ≡ 2 * length numbers
+length-fields16 [] = refl
+length-fields16 (number ∷ numbers) = omega (arith, length-fields16 numbers)
+
+pub length-fields64 : (numbers : List ℕ) → length (fields64 numbers) ≡ 8 * length numbers
+unfolding fields64
+length-fields64 [] = refl
+length-fields64 (number ∷ numbers) = omega (arith, length-fields64 numbers)

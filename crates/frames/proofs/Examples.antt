@@ -2,25 +2,29 @@
 use Prim.Native.Nat.{ℕ}
 use mathlib.Core.Path.{_≡_, refl}
 use mathlib.Core.List.{[], _∷_, map}
+use mathlib.Core.Bool.{true, false}
 use mathlib.Core.Option.{none, some}
 use lib.IntN.{ℤ, pos, negsuc}
-use lib.ListN.{replicate}
-use Rattle.words.specs.Tests.{allHold, someHolds}
+use lib.ListN.{length, replicate}
+use Rattle.words.specs.Tests.{allHold, someHolds, distinct}
 use Rattle.legs.specs.Legs.{measureInRange}
-use Rattle.tickets.specs.declared.StepAnswer.the-variants.{Granted, Stale}
+use Rattle.tickets.specs.declared.StepAnswer.the-variants.{Granted, Stale, Seen}
+use Rattle.tickets.specs.declared.Values.{Values}
+use Rattle.tickets.specs.Steps.{valuesFrom}
 use Rattle.tickets.specs.declared.LookAnswer.the-variants.{Value, Held}
 use Rattle.edits.specs.declared.Edit.{Edit}
 use Rattle.edits.specs.declared.Edit.the-variants as Edit
 use Rattle.edits.specs.Ranges.{editInRange, editRepeats}
-use Rattle.frames.specs.declared.Request.{Request}
-use Rattle.frames.specs.declared.Request.the-variants as Request
+use Rattle.edits.specs.Views.{allInBook, viewInRange, viewRepeats}
+use Rattle.frames.specs.Request as Request
 use Rattle.frames.specs.declared.Answer.the-variants as Answer
 use Rattle.frames.specs.declared.Header.the-variants as Header
 use Rattle.frames.specs.declared.EditRead.the-variants as EditRead
-use Rattle.frames.specs.Numbers.{Bytes}
-use Rattle.frames.specs.Requests.{lengthOfKind, addIn, editOfKind, requestOfKind, requestIn}
+use Rattle.frames.specs.declared.Reading.the-variants as Reading
+use Rattle.frames.specs.Numbers.{Bytes, numbers16, numbers64, fields64}
+use Rattle.frames.specs.Requests.{lengthOfKind, lengthFits, addIn, editOfKind, requestOfKind, requestIn}
 use Rattle.frames.specs.Answers.{answerFrame, written}
-use Rattle.frames.specs.Fields.{headerOf, editRead}
+use Rattle.frames.specs.Fields.{headerOf, editRead, readAs, viewRead}
 use Rattle.frames.specs.Writing.{requestFrame}
 use Rattle.frames.specs.Reading.{answerIn}
 
@@ -49,7 +53,7 @@ unfolding requestIn requestOfKind editOfKind addIn
 whole-case-read = refl
 
 whole-case-header : headerOf wholeCase ≡ Header.Kind 1
-unfolding headerOf someHolds allHold
+unfolding headerOf lengthFits someHolds allHold
 whole-case-header = refl
 
 -- Then ten times 04 00 05 00 00 00.
@@ -57,9 +61,29 @@ step-asked : requestFrame (Request.Step 0) ≡ 4 ∷ 0 ∷ 5 ∷ 0 ∷ 0 ∷ 0 �
 unfolding requestFrame
 step-asked = refl
 
+-- Team 3 asks for words 64 and 4,095 together: 0A 00 07 00 03 00 02 00 40 00 FF 0F.
+abbrev twoWords : Bytes
+twoWords = 10 ∷ 0 ∷ 7 ∷ 0 ∷ 3 ∷ 0 ∷ 2 ∷ 0 ∷ 64 ∷ 0 ∷ 255 ∷ 15 ∷ []
+
+view-asked : requestFrame (Request.View 3 2 (64 ∷ 4095 ∷ [])) ≡ twoWords
+unfolding requestFrame
+view-asked = refl
+
+view-read : requestIn twoWords ≡ Request.View 3 2 (64 ∷ 4095 ∷ [])
+unfolding requestIn requestOfKind numbers16
+view-read = refl
+
+view-header : headerOf twoWords ≡ Header.Kind 7
+unfolding headerOf lengthFits someHolds allHold
+view-header = refl
+
 -- The kinds' lengths.
 lengths : map lengthOfKind (1 ∷ 2 ∷ 3 ∷ 4 ∷ 5 ∷ 6 ∷ []) ≡ 24 ∷ 28 ∷ 26 ∷ 24 ∷ 4 ∷ 4 ∷ []
 lengths = refl
+
+view-lengths : map (lengthFits 7) (6 ∷ 7 ∷ 8 ∷ 9 ∷ 10 ∷ 18 ∷ 19 ∷ 20 ∷ []) ≡ false ∷ false ∷ true ∷ false ∷ true ∷ true ∷ false ∷ false ∷ []
+unfolding lengthFits allHold
+view-lengths = refl
 
 -- Answers.
 standing-5 : answerFrame (Answer.Standing 5) ≡ 4 ∷ 0 ∷ 128 ∷ 0 ∷ 5 ∷ 0 ∷ []
@@ -83,44 +107,77 @@ held : answerFrame (Answer.Look Held) ≡ 2 ∷ 0 ∷ 137 ∷ 0 ∷ []
 unfolding answerFrame
 held = refl
 
--- In an output of 12 bytes, those after the frame stay.
+-- Two values seen together, of a view whose room for six holds no more; and the longest answer, six.
+abbrev seenOf : ℕ → Values
+seenOf n = valuesFrom n (1 ∷ 76022100792200 ∷ [])
+
+seen-two : answerFrame (Answer.Step (Seen (seenOf 2))) ≡ 18 ∷ 0 ∷ 139 ∷ 0 ∷ 1 ∷ 0 ∷ 0 ∷ 0 ∷ 0 ∷ 0 ∷ 0 ∷ 0 ∷ 136 ∷ 19 ∷ 80 ∷ 70 ∷ 36 ∷ 69 ∷ 0 ∷ 0 ∷ []
+unfolding answerFrame fields64
+seen-two = refl
+
+seen-six : length (answerFrame (Answer.Step (Seen (seenOf 6)))) ≡ 52
+unfolding answerFrame fields64
+seen-six = refl
+
+seen-heard : answerIn (answerFrame (Answer.Step (Seen (seenOf 2)))) ≡ some (Answer.Step (Seen (seenOf 2)))
+unfolding answerIn answerFrame numbers64 fields64
+seen-heard = refl
+
+-- The bytes of an output after the frame stay.
 held-written : written (replicate 12 7) (answerFrame (Answer.Look Held)) ≡ (4, 2 ∷ 0 ∷ 137 ∷ 0 ∷ replicate 8 7)
 unfolding answerFrame
 held-written = refl
 
 -- Bytes heard: a frame, the frame with a byte more, with another length field, and of another kind.
 heard : answerIn (4 ∷ 0 ∷ 138 ∷ 0 ∷ 11 ∷ 0 ∷ []) ≡ some (Answer.Refused 11)
-unfolding answerIn answerFrame
+unfolding answerIn answerFrame numbers64 fields64
 heard = refl
 
 heard-more : answerIn (4 ∷ 0 ∷ 138 ∷ 0 ∷ 11 ∷ 0 ∷ 0 ∷ []) ≡ none
-unfolding answerIn answerFrame
+unfolding answerIn answerFrame numbers64 fields64
 heard-more = refl
 
 heard-length : answerIn (5 ∷ 0 ∷ 138 ∷ 0 ∷ 11 ∷ 0 ∷ []) ≡ none
-unfolding answerIn answerFrame
+unfolding answerIn answerFrame numbers64 fields64
 heard-length = refl
 
 heard-kind : answerIn (4 ∷ 0 ∷ 139 ∷ 0 ∷ 11 ∷ 0 ∷ []) ≡ none
-unfolding answerIn answerFrame
+unfolding answerIn answerFrame numbers64 fields64
 heard-kind = refl
 
 -- Frames refused by 3, 4 and 5.
 short : headerOf (2 ∷ 0 ∷ 5 ∷ []) ≡ Header.Refused 3
-unfolding headerOf someHolds allHold
+unfolding headerOf lengthFits someHolds allHold
 short = refl
 
 torn : headerOf (6 ∷ 0 ∷ 5 ∷ 0 ∷ 0 ∷ 0 ∷ []) ≡ Header.Refused 3
-unfolding headerOf someHolds allHold
+unfolding headerOf lengthFits someHolds allHold
 torn = refl
 
-kind-7 : headerOf (4 ∷ 0 ∷ 7 ∷ 0 ∷ 0 ∷ 0 ∷ []) ≡ Header.Refused 4
-unfolding headerOf someHolds allHold
-kind-7 = refl
+kind-8 : headerOf (4 ∷ 0 ∷ 8 ∷ 0 ∷ 0 ∷ 0 ∷ []) ≡ Header.Refused 4
+unfolding headerOf lengthFits someHolds allHold
+kind-8 = refl
 
 step-as-add : headerOf (4 ∷ 0 ∷ 1 ∷ 0 ∷ 0 ∷ 0 ∷ []) ≡ Header.Refused 5
-unfolding headerOf someHolds allHold
+unfolding headerOf lengthFits someHolds allHold
 step-as-add = refl
+
+-- A view with no word, with half a word more than none or one, and with seven.
+view-of-none : headerOf (6 ∷ 0 ∷ 7 ∷ 0 ∷ 3 ∷ 0 ∷ 0 ∷ 0 ∷ []) ≡ Header.Refused 5
+unfolding headerOf lengthFits someHolds allHold
+view-of-none = refl
+
+view-of-half : headerOf (7 ∷ 0 ∷ 7 ∷ 0 ∷ 3 ∷ 0 ∷ 1 ∷ 0 ∷ 64 ∷ []) ≡ Header.Refused 5
+unfolding headerOf lengthFits someHolds allHold
+view-of-half = refl
+
+view-and-half : headerOf (9 ∷ 0 ∷ 7 ∷ 0 ∷ 3 ∷ 0 ∷ 1 ∷ 0 ∷ 64 ∷ 0 ∷ 65 ∷ []) ≡ Header.Refused 5
+unfolding headerOf lengthFits someHolds allHold
+view-and-half = refl
+
+view-of-seven : headerOf (requestFrame (Request.View 3 7 (0 ∷ 1 ∷ 2 ∷ 3 ∷ 4 ∷ 5 ∷ 6 ∷ []))) ≡ Header.Refused 5
+unfolding headerOf lengthFits requestFrame someHolds allHold
+view-of-seven = refl
 
 -- Clino 9,001: 10. Distance 0: 10. Distance 100,000 passes. Strike with f = r: 11.
 clino-9001 : editRead (adding 5000 (pos 9001)) ≡ EditRead.Refused 10
@@ -154,3 +211,24 @@ strike-itself = refl
 range-first : editRead (striking 1 0 7 7) ≡ EditRead.Refused 10
 unfolding editRead editInRange editRepeats measureInRange allHold someHolds
 range-first = refl
+
+-- A view: an n other than the count of words, or a word above 4,095: 10, before 11. Equal words: 11.
+view-other-n : viewRead 3 (64 ∷ 65 ∷ []) ≡ readAs (Reading.Refused 10) []
+unfolding viewRead viewInRange viewRepeats allInBook distinct allHold
+view-other-n = refl
+
+view-word-4096 : viewRead 2 (64 ∷ 4096 ∷ []) ≡ readAs (Reading.Refused 10) []
+unfolding viewRead viewInRange viewRepeats allInBook distinct allHold
+view-word-4096 = refl
+
+view-twice : viewRead 3 (64 ∷ 65 ∷ 64 ∷ []) ≡ readAs (Reading.Refused 11) []
+unfolding viewRead viewInRange viewRepeats allInBook distinct allHold
+view-twice = refl
+
+view-range-first : viewRead 3 (4096 ∷ 64 ∷ 64 ∷ []) ≡ readAs (Reading.Refused 10) []
+unfolding viewRead viewInRange viewRepeats allInBook distinct allHold
+view-range-first = refl
+
+view-fine : viewRead 2 (64 ∷ 4095 ∷ []) ≡ record { reading = Reading.Is; view = record { n = 2; words = 64 ∷ 4095 ∷ 0 ∷ 0 ∷ 0 ∷ 0 ∷ [] } }
+unfolding viewRead viewInRange viewRepeats allInBook distinct allHold
+view-fine = refl

@@ -1,29 +1,43 @@
--- An answer's frame is 4 to 12 bytes long, and its length field is right.
+-- An answer's frame is 4 to 52 bytes long, and its length field is right.
 use Prim.Native.Nat.{ℕ, _+_, _/_, _%_, _≤_}
 use mathlib.Core.Path.{_≡_, refl, ap}
-use mathlib.Core.List.{[], _++_}
+use mathlib.Core.List.{List, [], _∷_, _++_}
 use mathlib.Core.Bool.{true}
 use native.Mathlib.Omega.{arith}
 use borrow.Author.Tests.{lt-ltb}
-use lib.ListN.{length}
-use Rattle.tickets.specs.declared.StepAnswer.the-variants.{Claimed, Waiting, Found, Put, Returned, Granted, Stale}
+use lib.ListN.{length, length-take}
+use Rattle.tickets.specs.Steps.{valuesOf}
+use Rattle.tickets.specs.declared.StepAnswer.the-variants.{Claimed, Waiting, Found, Put, Returned, Granted, Stale, Seen}
 use Rattle.tickets.specs.declared.LookAnswer.the-variants.{Value, Held}
 use Rattle.frames.specs.declared.Answer.{Answer}
 use Rattle.frames.specs.declared.Answer.the-variants.{Standing, Step, Look, Refused}
-use Rattle.frames.specs.Numbers.{Bytes, areBytes, bytes16, bytes32}
-use Rattle.frames.specs.Answers.{frameOf, answerKind, answerFields, answerFrame, longestAnswer, written, FrameSound, AnswerFramesSound}
+use Rattle.frames.specs.Numbers.{Bytes, areBytes, bytes16, bytes32, bytes64, fields64}
+use Rattle.frames.specs.Answers.{frameOf, answerKind, valuesShown, answerFields, answerFrame, longestAnswer, written, FrameSound, AnswerFramesSound}
+use Rattle.frames.proofs.Bytes.{length-fields64}
 
 -- A number's bytes are bytes, in front of others too.
 with16 : (x : ℕ) (bytes : Bytes) → areBytes bytes ≡ true → areBytes (bytes16 x ++ bytes) ≡ true
 unfolding areBytes
 with16 x bytes h = simp (lt-ltb (x % 256) 256 (omega arith), lt-ltb (x / 256 % 256) 256 (omega arith), h)
 
+with32 : (x : ℕ) (bytes : Bytes) → areBytes bytes ≡ true → areBytes (bytes32 x ++ bytes) ≡ true
+with32 x bytes h = with16 x (bytes16 (x / 65536) ++ bytes) (with16 (x / 65536) bytes h)
+
+with64 : (x : ℕ) (bytes : Bytes) → areBytes bytes ≡ true → areBytes (bytes64 x ++ bytes) ≡ true
+with64 x bytes h = with32 x (bytes32 (x / 4294967296) ++ bytes) (with32 (x / 4294967296) bytes h)
+
 no-bytes : areBytes [] ≡ true
 unfolding areBytes
 no-bytes = refl
 
--- A frame whose fields are bytes, at most eight of them.
-pub frame-sound : (kind : ℕ) (fields : Bytes) → length fields ≤ 8 → areBytes fields ≡ true → FrameSound (frameOf kind fields)
+-- So are those of numbers one after another.
+bytes-of64 : (numbers : List ℕ) → areBytes (fields64 numbers) ≡ true
+unfolding fields64
+bytes-of64 [] = no-bytes
+bytes-of64 (number ∷ numbers) = with64 number (fields64 numbers) (bytes-of64 numbers)
+
+-- A frame whose fields are bytes, at most 48 of them.
+pub frame-sound : (kind : ℕ) (fields : Bytes) → length fields ≤ 48 → areBytes fields ≡ true → FrameSound (frameOf kind fields)
 frame-sound kind fields few bytes = record {
   least = omega arith;
   most = omega arith;
@@ -31,7 +45,7 @@ frame-sound kind fields few bytes = record {
   length-right = omega arith;
 }
 
-few-fields : (answer : Answer) → length (answerFields answer) ≤ 8
+few-fields : (answer : Answer) → length (answerFields answer) ≤ 48
 few-fields (Standing n) = omega arith
 few-fields (Step (Claimed many)) = omega arith
 few-fields (Step (Waiting word)) = omega arith
@@ -40,6 +54,7 @@ few-fields (Step (Put many)) = omega arith
 few-fields (Step (Returned many)) = omega arith
 few-fields (Step (Granted tries)) = omega arith
 few-fields (Step (Stale word tries)) = omega arith
+few-fields (Step (Seen values)) = omega (arith, length-fields64 (valuesShown values), length-take (values .n) (valuesOf values))
 few-fields (Look (Value value)) = omega arith
 few-fields (Look Held) = omega arith
 few-fields (Refused number) = omega arith
@@ -51,12 +66,10 @@ fields-bytes (Step (Waiting word)) = with16 word [] no-bytes
 fields-bytes (Step (Found word)) = with16 word [] no-bytes
 fields-bytes (Step (Put many)) = with16 many [] no-bytes
 fields-bytes (Step (Returned many)) = with16 many [] no-bytes
-fields-bytes (Step (Granted tries)) = with16 tries (bytes16 (tries / 65536)) (with16 (tries / 65536) [] no-bytes)
-fields-bytes (Step (Stale word tries)) = with16 word (bytes32 tries) (with16 tries (bytes16 (tries / 65536)) (with16 (tries / 65536) [] no-bytes))
-fields-bytes (Look (Value value)) =
-    let high = value / 4294967296 in
-    with16 value (bytes16 (value / 65536) ++ bytes32 high)
-    (with16 (value / 65536) (bytes32 high) (with16 high (bytes16 (high / 65536)) (with16 (high / 65536) [] no-bytes)))
+fields-bytes (Step (Granted tries)) = with32 tries [] no-bytes
+fields-bytes (Step (Stale word tries)) = with16 word (bytes32 tries) (with32 tries [] no-bytes)
+fields-bytes (Step (Seen values)) = bytes-of64 (valuesShown values)
+fields-bytes (Look (Value value)) = with64 value [] no-bytes
 fields-bytes (Look Held) = no-bytes
 fields-bytes (Refused number) = with16 number [] no-bytes
 

@@ -1,16 +1,19 @@
 -- "Answers": the number and the fields of each, and where they are written.
-use Prim.Native.Nat.{ℕ, _+_, _≤_}
+use Prim.Native.Nat.{ℕ, _+_, _*_, _≤_}
 use mathlib.Core.Path.{_≡_}
-use mathlib.Core.List.{[], _++_}
+use mathlib.Core.List.{List, [], _++_}
 use mathlib.Core.Bool.{true}
-use lib.ListN.{length, drop}
+use lib.ListN.{length, take, drop}
+use Rattle.words.specs.Words.{mostTargets}
+use Rattle.tickets.specs.declared.Values.{Values}
+use Rattle.tickets.specs.Steps.{valuesOf}
 use Rattle.tickets.specs.declared.StepAnswer.{StepAnswer}
-use Rattle.tickets.specs.declared.StepAnswer.the-variants.{Claimed, Waiting, Found, Put, Returned, Granted, Stale}
+use Rattle.tickets.specs.declared.StepAnswer.the-variants.{Claimed, Waiting, Found, Put, Returned, Granted, Stale, Seen}
 use Rattle.tickets.specs.declared.LookAnswer.{LookAnswer}
 use Rattle.tickets.specs.declared.LookAnswer.the-variants.{Value, Held}
 use Rattle.frames.specs.declared.Answer.{Answer}
 use Rattle.frames.specs.declared.Answer.the-variants.{Standing, Step, Look, Refused}
-use Rattle.frames.specs.Numbers.{Bytes, areBytes, bytes16, bytes32, bytes64}
+use Rattle.frames.specs.Numbers.{Bytes, areBytes, bytes16, bytes32, bytes64, fields64}
 use Rattle.frames.specs.Requests.{lengthField, headBytes}
 
 -- "Each starts with a 16-bit length of what follows it, then a 16-bit kind".
@@ -26,6 +29,7 @@ stepAnswerKind (Put many) = 132
 stepAnswerKind (Returned many) = 133
 stepAnswerKind (Granted tries) = 134
 stepAnswerKind (Stale word tries) = 135
+stepAnswerKind (Seen values) = 139
 
 abbrev pub lookAnswerKind : LookAnswer → ℕ
 lookAnswerKind (Value value) = 136
@@ -37,6 +41,10 @@ answerKind (Step answer) = stepAnswerKind answer
 answerKind (Look answer) = lookAnswerKind answer
 answerKind (Refused number) = 138
 
+-- The values that a view shows: its first n; there are six at most.
+abbrev pub valuesShown : Values → List ℕ
+valuesShown seen = take (seen .n) (valuesOf seen)
+
 -- The fields of each: 16 bits, but tries 32 and a value 64.
 abbrev pub stepAnswerFields : StepAnswer → Bytes
 stepAnswerFields (Claimed many) = bytes16 many
@@ -46,6 +54,7 @@ stepAnswerFields (Put many) = bytes16 many
 stepAnswerFields (Returned many) = bytes16 many
 stepAnswerFields (Granted tries) = bytes32 tries
 stepAnswerFields (Stale word tries) = bytes16 word ++ bytes32 tries
+stepAnswerFields (Seen values) = fields64 (valuesShown values)
 
 abbrev pub lookAnswerFields : LookAnswer → Bytes
 lookAnswerFields (Value value) = bytes64 value
@@ -60,15 +69,15 @@ answerFields (Refused number) = bytes16 number
 unfoldable pub answerFrame : Answer → Bytes
 answerFrame answer = frameOf (answerKind answer) (answerFields answer)
 
--- The longest is Value: 12 bytes.
+-- The longest is a view's, of six values: 52 bytes.
 abbrev pub longestAnswer : ℕ
-longestAnswer = 12
+longestAnswer = headBytes + 8 * mostTargets
 
 -- "The call returns the bytes written; later bytes of the output keep their contents."
 abbrev pub written : Bytes → Bytes → ℕ × Bytes
 written out bytes = (length bytes, bytes ++ drop (length bytes) out)
 
--- A sound frame of an answer: 4 to 12 bytes long, its length field the count of bytes after it.
+-- A sound frame of an answer: 4 to 52 bytes long, its length field the count of bytes after it.
 pub record FrameSound (frame : Bytes) : Type 0 where
   pub least : headBytes ≤ length frame
   pub most : length frame ≤ longestAnswer

@@ -1,19 +1,19 @@
 -- "Frames refused": what 3, 4, 5, 10 and 11 test, on the frame and on its fields, and what the reader answers.
-use Prim.Native.Nat.{ℕ, _+_, _-_, _≤_}
+use Prim.Native.Nat.{ℕ, _+_, _*_, _-_, _≤_}
 use mathlib.Core.Path.{_≡_}
-use mathlib.Core.List.{[], _∷_}
+use mathlib.Core.List.{List, [], _∷_}
 use mathlib.Core.Bool.{Bool, false, not, cond}
 use lib.ListN.{length}
 use lib.Dec.{eqb, ltb}
 use lib.IntN.{ℤ}
 use Rattle.words.specs.Tests.{allHold, someHolds, within}
-use Rattle.words.specs.Words.{wordsInBook}
+use Rattle.words.specs.Words.{wordsInBook, mostTargets}
 use Rattle.legs.specs.declared.Measure.{Measure}
 use Rattle.legs.specs.Legs.{clinoInRange, measureInRange}
 use Rattle.edits.specs.declared.Edit.{Edit}
 use Rattle.edits.specs.Ranges.{legNumberInRange, legOrNoneInRange, countBeforeStrikeInRange, editInRange, editRepeats}
-use Rattle.frames.specs.declared.Request.{Request}
-use Rattle.frames.specs.declared.Request.the-variants.{Open, Step, Look}
+use Rattle.edits.specs.Views.{viewInRange, viewRepeats, viewOf}
+use Rattle.frames.specs.Request.{Request, Open, Step, Look, View}
 use Rattle.frames.specs.declared.Header.{Header}
 use Rattle.frames.specs.declared.Header.the-variants as Header
 use Rattle.frames.specs.declared.Field.{Field}
@@ -29,8 +29,11 @@ use Rattle.frames.specs.declared.TakenField.{TakenField}
 use Rattle.frames.specs.declared.TakenField.the-variants as TakenField
 use Rattle.frames.specs.declared.EditRead.{EditRead}
 use Rattle.frames.specs.declared.EditRead.the-variants as EditRead
+use Rattle.frames.specs.declared.Reading.{Reading}
+use Rattle.frames.specs.declared.Reading.the-variants as Reading
+use Rattle.frames.specs.declared.ViewRead.{ViewRead}
 use Rattle.frames.specs.Numbers.{Bytes}
-use Rattle.frames.specs.Requests.{lengthField, kindField, headBytes, partAfterKind, addKind, lookKind, lengthOfKind}
+use Rattle.frames.specs.Requests.{lengthField, kindField, headBytes, partAfterKind, addKind, viewKind, lengthOfKind, lengthFits}
 
 -- A frame has at most 64 bytes.
 abbrev pub longestFrame : ℕ
@@ -40,13 +43,13 @@ longestFrame = 64
 abbrev pub frameTorn : Bytes → Bool
 frameTorn frame = someHolds (ltb (length frame) headBytes ∷ ltb longestFrame (length frame) ∷ not (eqb (lengthField frame + 2) (length frame)) ∷ [])
 
--- 4. The kind isn't 1 to 6.
+-- 4. The kind isn't 1 to 7.
 abbrev pub kindUnknown : Bytes → Bool
-kindUnknown frame = not (within addKind lookKind (kindField frame))
+kindUnknown frame = not (within addKind viewKind (kindField frame))
 
 -- 5. The length isn't that of the kind.
 abbrev pub lengthWrong : Bytes → Bool
-lengthWrong frame = not (eqb (lengthField frame) (lengthOfKind (kindField frame)))
+lengthWrong frame = not (lengthFits (kindField frame) (lengthField frame))
 
 -- The first of these three that applies, or else the kind.
 unfoldable pub headerOf : Bytes → Header
@@ -56,12 +59,22 @@ headerOf frame =
     (cond (lengthWrong frame) (Header.Refused 5)
     (Header.Kind (kindField frame))))
 
--- A frame that none of the three refuses: its kind is 1 to 6, and the part after the kind has the length that the kind asks for.
+-- The part after the kind has the length that the kind asks for: a view's has room for team, n and one to six words.
+pub record ViewFields (part : Bytes) : Type 0 where
+  pub words : ℕ
+  pub least : 1 ≤ words
+  pub most : words ≤ mostTargets
+  pub long : length part ≡ 4 + 2 * words
+
+abbrev pub FieldsOf : ℕ → Bytes → Type 0
+FieldsOf kind part = cond (eqb kind viewKind) (ViewFields part) (length part ≡ lengthOfKind kind - 2)
+
+-- A frame that none of the three refuses: its kind is 1 to 7, and the part after the kind has its fields.
 pub record Whole (frame : Bytes) (kind : ℕ) : Type 0 where
   pub first : addKind ≤ kind
-  pub last : kind ≤ lookKind
+  pub last : kind ≤ viewKind
   pub head : headBytes ≤ length frame
-  pub fields : length (partAfterKind frame) ≡ lengthOfKind kind - 2
+  pub fields : FieldsOf kind (partAfterKind frame)
 
 abbrev pub WholeIfKnown : Bytes → Header → Type 0
 WholeIfKnown frame (Header.Kind kind) = Whole frame kind
@@ -72,12 +85,14 @@ abbrev pub fieldOutOfRange : Request → Bool
 fieldOutOfRange (Open team edit) = not (editInRange edit)
 fieldOutOfRange (Step team) = false
 fieldOutOfRange (Look word) = not (ltb word wordsInBook)
+fieldOutOfRange (View team n words) = not (viewInRange n words)
 
--- 11. from equals to, q equals p, or a leg number other than 0 is named twice.
+-- 11. from equals to, q equals p, or a leg number other than 0 is named twice; a view names a word twice.
 abbrev pub fieldRepeated : Request → Bool
 fieldRepeated (Open team edit) = editRepeats edit
 fieldRepeated (Step team) = false
 fieldRepeated (Look word) = false
+fieldRepeated (View team n words) = viewRepeats words
 
 -- A field's answer: in range with its value, or out of range. For fields of 16 bits, the distance, the clino, and M.
 abbrev pub fieldOf : Bool → ℕ → Field
@@ -109,3 +124,11 @@ takenFieldOf taken = cond (takenInRange taken) (TakenField.InRange taken) TakenF
 -- What the fields of an edit are read as: refused by 10 where one is out of range, then by 11, or else the edit.
 unfoldable pub editRead : Edit → EditRead
 editRead edit = cond (editInRange edit) (cond (editRepeats edit) (EditRead.Refused 11) (EditRead.Is edit)) (EditRead.Refused 10)
+
+-- A view read, or a refusal, with no words.
+abbrev pub readAs : Reading → List ℕ → ViewRead
+readAs reading words = record { reading = reading; view = viewOf words }
+
+-- What the fields of a view are read as, likewise.
+unfoldable pub viewRead : ℕ → List ℕ → ViewRead
+viewRead n words = cond (viewInRange n words) (cond (viewRepeats words) (readAs (Reading.Refused 11) []) (readAs Reading.Is words)) (readAs (Reading.Refused 10) [])

@@ -1,9 +1,12 @@
 -- "Frames": the kinds, their lengths, and the fields of each.
-use Prim.Native.Nat.{ℕ, _+_}
+use Prim.Native.Nat.{ℕ, _+_, _*_, _-_, _/_, _%_}
 use mathlib.Core.Path.{_≡_}
-use mathlib.Core.Bool.{true, cond}
-use lib.ListN.{drop}
+use mathlib.Core.List.{List, [], _∷_}
+use mathlib.Core.Bool.{Bool, true, cond}
+use lib.ListN.{length, drop}
 use lib.Dec.{eqb}
+use Rattle.words.specs.Tests.{allHold, within}
+use Rattle.words.specs.Words.{mostTargets}
 use Rattle.legs.specs.declared.Stations.{Stations}
 use Rattle.legs.specs.declared.Measure.{Measure}
 use Rattle.edits.specs.declared.Add.{Add}
@@ -14,9 +17,8 @@ use Rattle.edits.specs.declared.Edit.{Edit}
 use Rattle.edits.specs.declared.Edit.the-variants as Edit
 use Rattle.edits.specs.Ranges.{editStationsInRange}
 use Rattle.frames.specs.declared.Taken.{Taken}
-use Rattle.frames.specs.declared.Request.{Request}
-use Rattle.frames.specs.declared.Request.the-variants.{Open, Step, Look}
-use Rattle.frames.specs.Numbers.{Bytes, areBytes, number16, number32, signed16}
+use Rattle.frames.specs.Request.{Request, Open, Step, Look, View}
+use Rattle.frames.specs.Numbers.{Bytes, areBytes, number16, number32, numbers16, signed16}
 
 -- Each starts with a 16-bit length of what follows it,
 abbrev pub lengthField : Bytes → ℕ
@@ -53,6 +55,9 @@ stepKind = 5
 abbrev pub lookKind : ℕ
 lookKind = 6
 
+abbrev pub viewKind : ℕ
+viewKind = 7
+
 -- Add (length 24), Correct (28), Strike (26), Move (24), Step (4), Look (4); 0 for no kind.
 abbrev pub lengthOfKind : ℕ → ℕ
 lengthOfKind kind =
@@ -62,6 +67,17 @@ lengthOfKind kind =
     (cond (eqb kind moveKind) 24
     (cond (eqb kind stepKind) 4
     (cond (eqb kind lookKind) 4 0)))))
+
+-- A view: the kind, the team and n take 6 bytes, each word 2.
+abbrev pub lengthOfView : ℕ → ℕ
+lengthOfView words = 6 + 2 * words
+
+-- View (length even, 8 to 18: one to six words); every other kind has one length.
+unfoldable pub lengthFits : ℕ → ℕ → Bool
+lengthFits kind length =
+    cond (eqb kind viewKind)
+    (allHold (within (lengthOfView 1) (lengthOfView mostTargets) length ∷ eqb (length % 2) 0 ∷ []))
+    (eqb length (lengthOfKind kind))
 
 -- from to.
 abbrev pub stationsAt : Bytes → ℕ → Stations
@@ -75,7 +91,7 @@ measureAt part at = record { distance = number32 part at; compass = number16 par
 abbrev pub takenAt : Bytes → ℕ → Taken
 takenAt part at = record { newer = number16 part at; leg = number16 part (at + 2); older = number16 part (at + 4); count = number16 part (at + 6) }
 
--- Every edit and a step start with the team.
+-- Every edit, a step and a view start with the team.
 abbrev pub teamIn : Bytes → ℕ
 teamIn part = number16 part 0
 
@@ -134,12 +150,17 @@ editOfKind kind part =
     (cond (eqb kind strikeKind) (Edit.Strike (strikeIn part))
     (Edit.Move (moveIn part))))
 
--- What a frame of kind 1 to 6 asks for. (Other kinds are refused before this is looked at.)
+-- View: team n, then words: as many as there are.
+abbrev pub viewWordsIn : Bytes → List ℕ
+viewWordsIn part = numbers16 ((length part - 4) / 2) part 4
+
+-- What a frame of kind 1 to 7 asks for. (Other kinds are refused before this is looked at.)
 unfoldable pub requestOfKind : ℕ → Bytes → Request
 requestOfKind kind part =
     cond (eqb kind stepKind) (Step (teamIn part))
     (cond (eqb kind lookKind) (Look (number16 part 0))
-    (Open (teamIn part) (editOfKind kind part)))
+    (cond (eqb kind viewKind) (View (teamIn part) (number16 part 2) (viewWordsIn part))
+    (Open (teamIn part) (editOfKind kind part))))
 
 unfoldable pub requestIn : Bytes → Request
 requestIn frame = requestOfKind (kindField frame) (partAfterKind frame)

@@ -4,16 +4,17 @@ use mathlib.Core.Path.{_≡_}
 use mathlib.Core.List.{List, [], _∷_, _++_, map}
 use mathlib.Core.Bool.{Bool, true}
 use lib.Dec.{ltb}
+use lib.ListN.{length}
 use lib.IntN.{ℤ, pos, negsuc}
-use Rattle.words.specs.Tests.{allHold}
+use Rattle.words.specs.Tests.{allHold, within}
+use Rattle.words.specs.Words.{mostTargets}
 use Rattle.legs.specs.declared.Measure.{Measure}
 use Rattle.edits.specs.declared.Edit.{Edit}
 use Rattle.edits.specs.declared.Edit.the-variants.{Add, Correct, Strike, Move}
-use Rattle.frames.specs.declared.Request.{Request}
-use Rattle.frames.specs.declared.Request.the-variants.{Open, Step, Look}
+use Rattle.frames.specs.Request.{Request, Open, Step, Look, View}
 use Rattle.frames.specs.declared.Header.the-variants.{Kind}
 use Rattle.frames.specs.Numbers.{Bytes, bytes16, bytes32, fits16, fits32}
-use Rattle.frames.specs.Requests.{addKind, correctKind, strikeKind, moveKind, stepKind, lookKind, requestIn}
+use Rattle.frames.specs.Requests.{addKind, correctKind, strikeKind, moveKind, stepKind, lookKind, viewKind, requestIn}
 use Rattle.frames.specs.Answers.{frameOf}
 use Rattle.frames.specs.Fields.{headerOf}
 
@@ -46,6 +47,7 @@ abbrev pub requestKind : Request → ℕ
 requestKind (Open team edit) = editKind edit
 requestKind (Step team) = stepKind
 requestKind (Look word) = lookKind
+requestKind (View team n words) = viewKind
 
 -- An edit's numbers of 16 bits, in the frame's order.
 abbrev pub editNumbers : Edit → List ℕ
@@ -69,6 +71,7 @@ abbrev pub requestFields : Request → Bytes
 requestFields (Open team edit) = editFields team edit
 requestFields (Step team) = bytes16 team
 requestFields (Look word) = bytes16 word
+requestFields (View team n words) = fields16 (team ∷ n ∷ words)
 
 unfoldable pub requestFrame : Request → Bytes
 requestFrame request = frameOf (requestKind request) (requestFields request)
@@ -87,11 +90,19 @@ abbrev pub requestFits : Request → Bool
 requestFits (Open team edit) = allHold (allHold (map fits16 (team ∷ editNumbers edit)) ∷ allHold (map measureFits (editMeasures edit)) ∷ [])
 requestFits (Step team) = fits16 team
 requestFits (Look word) = fits16 word
+requestFits (View team n words) = allHold (map fits16 (team ∷ n ∷ words))
 
 -- Statement: what is asked for is read back from its frame without loss.
 abbrev pub RequestsReadBack : Type 0
 RequestsReadBack = (request : Request) → requestFits request ≡ true → requestIn (requestFrame request) ≡ request
 
+-- A view names one to six words.
+abbrev pub sized : Request → Bool
+sized (Open team edit) = true
+sized (Step team) = true
+sized (Look word) = true
+sized (View team n words) = within 1 mostTargets (length words)
+
 -- Statement: refusals 3, 4 and 5 never apply to such a frame.
 abbrev pub RequestFramesWhole : Type 0
-RequestFramesWhole = (request : Request) → headerOf (requestFrame request) ≡ Kind (requestKind request)
+RequestFramesWhole = (request : Request) → sized request ≡ true → headerOf (requestFrame request) ≡ Kind (requestKind request)

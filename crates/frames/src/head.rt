@@ -2,13 +2,14 @@
 ghost use mathlib.Core.Path.{_≡_};
 ghost use Prim.Native.Nat.{_≤_};
 ghost use lib.ListN.{length};
-ghost use Rattle.frames.specs.Requests.{headBytes, partAfterKind, lengthOfKind};
+ghost use Rattle.frames.specs.Requests.{headBytes, partAfterKind, lengthOfKind, lengthFits};
 ghost use Rattle.frames.specs.Fields.{headerOf, WholeIfKnown};
 use crate::Frame;
 use crate::Header;
 use crate::Kind;
 use crate::Refusal;
 use crate::numbers::read16;
+use words::Limits;
 
 // The part of the frame after its kind.
 pub fn part_after_kind(frame: &[u8]) -> &[u8]
@@ -33,6 +34,26 @@ fn length_of_kind(kind: u16) -> u16
     }
 }
 
+// Whether the length field fits the kind. A view's says how many words there are.
+fn length_fits(kind: u16, length: u16) -> bool
+    ensures { λ r. ⌜ r ≡ lengthFits kind length ⌝ }
+{
+    if length == length_of_kind(kind) {
+        return kind != Kind::VIEW;
+    }
+    if kind != Kind::VIEW {
+        return false;
+    }
+    let count = length as usize;
+    if count < Frame::BEFORE_WORDS + Frame::FIELD {
+        return false;
+    }
+    if Frame::BEFORE_WORDS + Frame::FIELD * Limits::TARGETS < count {
+        return false;
+    }
+    count % Frame::FIELD == 0
+}
+
 // The kind, unless refusal 3, 4 or 5 comes first.
 pub fn read_header(frame: &[u8]) -> Header
     ensures { λ r. ⌜ (r ≡ headerOf (now (frame .entry))) × WholeIfKnown (now (frame .entry)) r ⌝ }
@@ -52,11 +73,10 @@ pub fn read_header(frame: &[u8]) -> Header
     if kind < Kind::ADD {
         return Header::Refused(Refusal::KIND);
     }
-    if Kind::LOOK < kind {
+    if Kind::VIEW < kind {
         return Header::Refused(Refusal::KIND);
     }
-    let due = length_of_kind(kind);
-    if length != due {
+    if !length_fits(kind, length) {
         return Header::Refused(Refusal::LENGTH);
     }
     Header::Kind(kind)

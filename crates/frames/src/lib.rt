@@ -1,18 +1,13 @@
-// Frames: what a frame asks for and what answers it, as types; numbers in bytes, and a frame's head.
+// Frames: what is read from a frame and what answers it, as types; numbers in bytes, and a frame's head.
 use edits::Edit;
+use edits::View;
 use legs::Measure;
 use tickets::LookAnswer;
 use tickets::StepAnswer;
+use words::Limits;
 
 pub mod numbers; // numbers in bytes, read and put
 pub mod head; // refusals 3 to 5, and the part after the kind
-
-// What a frame asks for: an edit or a step of a team, or a look at a word.
-pub enum Request {
-    Open(u16, Edit),
-    Step(u16),
-    Look(u16),
-}
 
 pub enum Answer {
     Standing(u16),
@@ -67,6 +62,18 @@ pub enum EditRead {
     Refused(u16),
 }
 
+// Whether a frame's fields are a view, or the number of the refusal,
+pub enum Reading {
+    Is,
+    Refused(u16),
+}
+
+// and the view beside it, which holds an array; a refused one names no words.
+pub struct ViewRead {
+    pub reading: Reading,
+    pub view: View,
+}
+
 // The size of a frame, in bytes.
 pub struct Frame {}
 
@@ -74,15 +81,21 @@ impl Frame {
     // A field of 16 bits, as the length and the kind are.
     pub const FIELD: usize = 2;
 
+    // A value, of 64 bits.
+    pub const VALUE: usize = 8;
+
     // The length and the kind.
     pub const HEAD: usize = 4;
+
+    // What a view's length counts beside its words: kind, team and n.
+    pub const BEFORE_WORDS: usize = 6;
 
     pub const LONGEST: usize = 64;
 }
 
 impl Answer {
     // The bytes of the longest answer's frame, which an output must have room for.
-    pub const LONGEST: usize = 12;
+    pub const LONGEST: usize = Frame::HEAD + Frame::VALUE * Limits::TARGETS;
 }
 
 // The kinds of what is asked for.
@@ -100,6 +113,8 @@ impl Kind {
     pub const STEP: u16 = 5;
 
     pub const LOOK: u16 = 6;
+
+    pub const VIEW: u16 = 7;
 }
 
 // The numbers of the refusals, in checking order.

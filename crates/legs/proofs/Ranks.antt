@@ -10,10 +10,10 @@ use native.Mathlib.Decide.{decLt, ℕ-discrete}
 use borrow.Author.Tests.{lt-ltb, le-ltb, eq-eqb, ne-eqb, eqb-true}
 use lib.Dec.{eqb}
 use lib.ListN.{length, getD}
-use Rattle.words.specs.Tests.{allHold}
+use Rattle.words.specs.Tests.{allHold, occurs}
 use Rattle.words.specs.Words.{passageCount, newestWord, firstLegWord}
 use Rattle.words.proofs.Tests.{split}
-use Rattle.legs.specs.Positions.{fixedRanks, positionBy, occurs, allOccurBelow, isPermutation, FixedRanksArePermutation, PositionsDiffer}
+use Rattle.legs.specs.Positions.{fixedRanks, positionBy, allOccurBelow, isPermutation, FixedRanksArePermutation, PositionsDiffer}
 
 pub fixed-ranks-are-permutation : FixedRanksArePermutation
 unfolding isPermutation allHold

@@ -2,6 +2,7 @@
 // the text of the file stdout beside, which the second model makes.
 ghost use Prim.Native.Nat.{_≤_};
 ghost use lib.ListN.{length};
+use desk::Cases;
 use desk::Room;
 use desk::say;
 use legs::Leg;
@@ -10,17 +11,6 @@ use tickets::Phase;
 use tickets::Ticket;
 use tickets::Tickets;
 use words::Limits;
-
-struct Cases {}
-
-impl Cases {
-    const HELD: u64 = Limits::HELD;
-
-    // A word that is no team's mark.
-    const NOBODYS: u64 = Limits::HELD + Limits::TEAMS as u64;
-
-    const LARGEST: u64 = 18446744073709551615;
-}
 
 fn on_book(words: &mut [u64], many: usize, out: usize, frame: &[u8])
     requires { ⌜ (many ≤ length (now words)) × (out ≤ 64) ⌝ }
@@ -42,21 +32,22 @@ fn other_books() {
     let empty: [u8; 0] = [];
     say::text(b"# Refusal 1: other book lengths, before everything else.\nfresh\n");
     tell_book(4095);
-    on_book(&mut words, 4095, 12, &look);
+    on_book(&mut words, 4095, 52, &look);
     on_book(&mut words, 4095, 0, &empty);
     tell_book(4097);
-    on_book(&mut words, 4097, 12, &look);
+    on_book(&mut words, 4097, 52, &look);
     tell_book(0);
     on_book(&mut words, 0, 64, &step);
 }
 
-// The same look into outputs of 0 to 13 bytes.
+// The same look into outputs that are too short, and just long enough.
 fn each_output(book: &mut [u64; Limits::WORDS], tickets: Tickets, frame: &[u8]) {
-    let mut many: usize = 0;
-    while many < 14 {
-        desk::call(book, tickets, many, 170, frame);
-        many += 1;
-    }
+    desk::call(book, tickets, 0, 170, frame);
+    desk::call(book, tickets, 11, 170, frame);
+    desk::call(book, tickets, 12, 170, frame);
+    desk::call(book, tickets, 51, 170, frame);
+    desk::call(book, tickets, 52, 170, frame);
+    desk::call(book, tickets, 53, 170, frame);
 }
 
 fn outputs(book: &mut [u64; Limits::WORDS], tickets: Tickets) {
@@ -66,11 +57,11 @@ fn outputs(book: &mut [u64; Limits::WORDS], tickets: Tickets) {
     let step = [4, 0, 5, 0, 0, 0];
     let empty: [u8; 0] = [];
     each_output(book, tickets, &look);
-    desk::call(book, tickets, 11, 170, &empty);
+    desk::call(book, tickets, 51, 170, &empty);
     say::text(b"# Later bytes of the output keep their contents.\n");
-    desk::call(book, tickets, 20, 85, &last);
-    desk::call(book, tickets, 20, 85, &beyond);
-    desk::call(book, tickets, 16, 85, &step);
+    desk::call(book, tickets, 60, 85, &last);
+    desk::call(book, tickets, 60, 85, &beyond);
+    desk::call(book, tickets, 56, 85, &step);
 }
 
 fn other_counts(book: &mut [u64; Limits::WORDS], tickets: Tickets) {
@@ -103,25 +94,11 @@ fn held_words(book: &mut [u64; Limits::WORDS], tickets: Tickets) {
     look_at(book, tickets, Cases::NOBODYS);
     look_at(book, tickets, Cases::LARGEST);
     say::text(b"# A claim waits for a mark that is nobody's, too.\n");
-    let ticket = one_target(Phase::Claiming, 1, 0, 0, 7, 0, 1);
+    let ticket = desk::one_target(Phase::Claiming, 1, 0, 0, 7, 0, 1);
     let lent = desk::lend(tickets, 5, ticket);
     let waiting = desk::step(book, lent, 5);
     desk::set_word(book, 7, Cases::NOBODYS);
     desk::step(book, waiting, 5);
-}
-
-// A ticket of one target, with no tries.
-fn one_target(
-    phase: Phase,
-    n: u16,
-    claimed: u16,
-    done: u16,
-    word: u16,
-    quoted: u64,
-    new: u64,
-) -> Ticket {
-    let ticket = desk::ticket_of(phase, n, claimed, done, 0);
-    desk::with_target(ticket, 0, word, quoted, new)
 }
 
 // A ticket of two targets, words 0 and 1, with no tries.
@@ -137,11 +114,6 @@ fn seven_targets() -> Ticket {
     ticket = desk::with_target(ticket, 3, 3, 0, 0);
     ticket = desk::with_target(ticket, 4, 4, 0, 0);
     desk::with_target(ticket, 5, 5, 0, 0)
-}
-
-fn damaged(book: &mut [u64; Limits::WORDS], ticket: Ticket) {
-    let tickets = desk::lend(Tickets::fresh(), 3, ticket);
-    desk::step(book, tickets, 3);
 }
 
 // The first is asked in every way: by a step, by an edit with from equal to to and no distance, and by others.
@@ -174,7 +146,7 @@ fn no_targets(book: &mut [u64; Limits::WORDS]) {
         106,
         255,
     ];
-    let ticket = one_target(Phase::Claiming, 0, 0, 0, 50, 0, 7);
+    let ticket = desk::one_target(Phase::Claiming, 0, 0, 0, 50, 0, 7);
     let tickets = desk::lend(Tickets::fresh(), 3, ticket);
     desk::step(book, tickets, 3);
     desk::ask(book, tickets, &edit);
@@ -187,25 +159,25 @@ fn badly_made(book: &mut [u64; Limits::WORDS]) {
     say::text(b"# Tickets that aren't well made: refusal 7, before 8, 10 and 11, after 6.\n");
     desk::fresh(book);
     no_targets(book);
-    damaged(book, seven_targets());
-    damaged(book, one_target(Phase::Claiming, 1, 0, 0, 4096, 0, 0));
-    damaged(
+    desk::damaged(book, seven_targets());
+    desk::damaged(book, desk::one_target(Phase::Claiming, 1, 0, 0, 4096, 0, 0));
+    desk::damaged(
         book,
-        one_target(Phase::Claiming, 1, 0, 0, 0, Cases::HELD, 0),
+        desk::one_target(Phase::Claiming, 1, 0, 0, 0, Cases::HELD, 0),
     );
-    damaged(
+    desk::damaged(
         book,
-        one_target(Phase::Claiming, 1, 0, 0, 0, 0, Cases::HELD),
+        desk::one_target(Phase::Claiming, 1, 0, 0, 0, 0, Cases::HELD),
     );
-    damaged(book, one_target(Phase::Claiming, 1, 1, 0, 0, 0, 0));
-    damaged(book, two_targets(Phase::Putting, 2, 2));
-    damaged(book, two_targets(Phase::GivingBack, 2, 1));
-    damaged(book, two_targets(Phase::GivingBack, 1, 1));
+    desk::damaged(book, desk::one_target(Phase::Claiming, 1, 1, 0, 0, 0, 0));
+    desk::damaged(book, two_targets(Phase::Putting, 2, 2));
+    desk::damaged(book, two_targets(Phase::GivingBack, 2, 1));
+    desk::damaged(book, two_targets(Phase::GivingBack, 1, 1));
 }
 
 fn odd_but_well_made(book: &mut [u64; Limits::WORDS]) {
     say::text(b"# Well made though odd: a target after the n-th may be anything.\n");
-    let first = one_target(Phase::Claiming, 1, 0, 9, 0, 0, 5);
+    let first = desk::one_target(Phase::Claiming, 1, 0, 9, 0, 0, 5);
     let ticket = desk::with_target(first, 1, 5000, Cases::HELD, Cases::HELD);
     let lent = desk::lend(Tickets::fresh(), 3, ticket);
     let claimed = desk::step(book, lent, 3);
@@ -213,7 +185,7 @@ fn odd_but_well_made(book: &mut [u64; Limits::WORDS]) {
 }
 
 fn two_claims(book: &mut [u64; Limits::WORDS], tickets: Tickets, word: u16, other: u16) -> Tickets {
-    let first = one_target(Phase::Claiming, 2, 0, 0, word, 0, 1);
+    let first = desk::one_target(Phase::Claiming, 2, 0, 0, word, 0, 1);
     let ticket = desk::with_target(first, 1, other, 0, 2);
     let lent = desk::lend(tickets, 2, ticket);
     let claimed = desk::step(book, lent, 2);
@@ -227,12 +199,6 @@ fn twice_or_out_of_order(book: &mut [u64; Limits::WORDS]) {
     two_claims(book, tickets, 30, 3);
 }
 
-fn three_steps(book: &mut [u64; Limits::WORDS], tickets: Tickets) -> Tickets {
-    let first = desk::step(book, tickets, 2);
-    let second = desk::step(book, first, 2);
-    desk::step(book, second, 2)
-}
-
 fn putting_without_marks(book: &mut [u64; Limits::WORDS]) -> Tickets {
     say::text(b"# Putting leaves a word that doesn't hold the mark; either way it counts.\n");
     let fresh = desk::fresh(book);
@@ -243,7 +209,7 @@ fn putting_without_marks(book: &mut [u64; Limits::WORDS]) -> Tickets {
     ticket = desk::with_target(ticket, 1, 11, 0, 5);
     ticket = desk::with_target(ticket, 2, 10, 0, 5);
     let lent = desk::lend(fresh, 2, ticket);
-    three_steps(book, lent)
+    desk::three_steps(book, lent, 2)
 }
 
 fn giving_back_without_marks(book: &mut [u64; Limits::WORDS], tickets: Tickets) {
@@ -255,7 +221,7 @@ fn giving_back_without_marks(book: &mut [u64; Limits::WORDS], tickets: Tickets) 
     ticket = desk::with_target(ticket, 2, 12, 4, 5);
     ticket = desk::with_target(ticket, 3, 33, 4, 5);
     let lent = desk::lend(tickets, 2, ticket);
-    three_steps(book, lent);
+    desk::three_steps(book, lent, 2);
 }
 
 fn claimed_one(quoted: u64) -> Ticket {
@@ -354,7 +320,7 @@ fn readings() {
 fn main() {
     say::text(b"# Calls that a stream can't reach. Lines that begin with = are the model's.\n");
     other_books();
-    say::text(b"# Refusal 2: outputs of 0 to 13 bytes, before everything that the frame can be.\n");
+    say::text(b"# Refusal 2: outputs of 0 to 53 bytes, before everything that the frame can be.\n");
     let mut book = [0u64; Limits::WORDS];
     let tickets = desk::fresh(&mut book);
     outputs(&mut book, tickets);

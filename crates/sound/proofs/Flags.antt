@@ -12,7 +12,7 @@ use lib.ListN.{length, getD, set, drop, length-set, length-append, length-drop}
 use lib.Seq.{getD-set-same, getD-set-other, drop-at}
 use borrow.Author.Tests.{eq-eqb, ne-eqb}
 use Rattle.words.specs.Words.{Words, passageCount, lastLeg, newestWord, countWord, linkWord, readOf}
-use Rattle.legs.specs.Positions.{occurs}
+use Rattle.words.specs.Tests.{occurs}
 use Rattle.soundness.specs.Checking.{mayFollow, walk, walkPassage, walkBelow, restZero, isSound}
 use Rattle.soundness.proofs.Walking.{walk-on, walk-off, walk-ends, passage-walk, passage-off, below-next, below-off, sound-off, sound-by}
 use Rattle.sound.specs.Flags.{Flagged, WalkAgrees}

@@ -6,7 +6,7 @@ use mathlib.Core.Bool.{Bool, true, false, cond}
 use mathlib.Core.Option.{Option, none, some}
 use lib.ListN.{length, getD}
 use Rattle.words.specs.Words.{lastLeg}
-use Rattle.legs.specs.Positions.{occurs}
+use Rattle.words.specs.Tests.{occurs}
 
 -- The flags are those of the legs used.
 pub record Flagged (flags used : List ℕ) : Type 0 where

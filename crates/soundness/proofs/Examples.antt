@@ -8,12 +8,11 @@ use native.Mathlib.Omega.{arith}
 use lib.ListN.{length, getD, replicate, set}
 use lib.Seq.{getD-append-add}
 use borrow.Author.Tests.{eq-eqb}
-use Rattle.words.specs.Tests.{allHold}
+use Rattle.words.specs.Tests.{allHold, occurs}
 use Rattle.words.specs.Words.{Words, wordsInBook, passageCount, lastLeg, newestWord, countWord, linkWord, placeWord, measureWord, markOf, readOf}
 use Rattle.words.proofs.Tests.{join}
 use Rattle.legs.specs.Legs.{placeInRange, measureInRange}
 use Rattle.legs.specs.Reading.{isPlace, isMeasure, readingOf}
-use Rattle.legs.specs.Positions.{occurs}
 use Rattle.soundness.specs.declared.Checked.{Checked}
 use Rattle.soundness.specs.declared.Checked.the-variants.{Yes, No, WrongBookLength, ScratchTooShort}
 use Rattle.soundness.specs.Checking.{mayFollow, walk, walkPassage, walkBelow, usedOrZero, restZero, isSound}

@@ -9,10 +9,9 @@ use native.Mathlib.Numerals.{add-one}
 use native.Mathlib.Decide.{ℕ-discrete}
 use lib.Dec.{eqb, leb}
 use borrow.Author.Tests.{eq-eqb, ne-eqb, leb-true, le-leb, lt-leb, not-true}
-use Rattle.words.specs.Tests.{within}
+use Rattle.words.specs.Tests.{within, occurs}
 use Rattle.words.specs.Words.{Words, passageCount, lastLeg, newestWord, countWord, linkWord, readOf}
 use Rattle.words.proofs.Tests.{split, join, is-false, next-test, failed-test, last-test}
-use Rattle.legs.specs.Positions.{occurs}
 use Rattle.soundness.specs.Checking.{isOfPassage, readingAt, mayFollow, walk, walkPassage, walkBelow, isZero, usedOrZero, restZero, isSound}
 
 -- The number of a leg.

@@ -24,7 +24,7 @@ struct Buffers {}
 impl Buffers {
     const INPUT: usize = 65536;
 
-    // Room for every answer: a frame has at least 2 bytes, an answer at most 12.
+    // Room for every answer: a frame has at least 2 bytes, an answer at most 52.
     const OUTPUT: usize = Answer::LONGEST / Frame::FIELD * Buffers::INPUT;
 }
 

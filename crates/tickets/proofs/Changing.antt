@@ -14,6 +14,11 @@ use Rattle.tickets.proofs.Slots.{slot-same, slot-other, every-slot}
 abbrev pub HoldsSome : Ticket → ℕ → Type 0
 HoldsSome ticket word = (value : ℕ) × Holds ticket word value
 
+-- Of two tickets one holds what the other holds.
+pub record HeldAlike (old new : Ticket) : Type 0 where
+  pub held-before : (word value : ℕ) → Holds new word value → Holds old word value
+  pub held-after : (word value : ℕ) → Holds old word value → HoldsSome new word
+
 -- A word that no team but this one holds.
 abbrev pub NoOthers : Words → ℕ → ℕ → Type 0
 NoOthers words team word = (readOf words word < 2 ^ 63) ⊎ (readOf words word ≡ markOf team)

@@ -1,19 +1,19 @@
--- Small books, stepped by computation: a ticket alone, two that meet on a word, and one that gives back.
+-- Small books, stepped by computation: a ticket alone, two that meet on a word, one that gives back, and views.
 use Prim.Native.Nat.{ℕ}
 use mathlib.Core.Path.{_≡_, refl}
 use mathlib.Core.List.{List, [], _∷_, map}
-use mathlib.Core.Bool.{true}
+use mathlib.Core.Bool.{true, false}
 use lib.ListN.{length, replicate}
 use Rattle.words.specs.Words.{Words}
-use Rattle.words.specs.Tests.{allHold}
+use Rattle.words.specs.Tests.{allHold, allOccur, distinct}
 use Rattle.tickets.specs.declared.Target.{Target}
-use Rattle.tickets.specs.declared.Phase.the-variants.{Claiming}
+use Rattle.tickets.specs.declared.Phase.the-variants.{Claiming, Viewing}
 use Rattle.tickets.specs.declared.Ticket.{Ticket}
 use Rattle.tickets.specs.declared.StepAnswer.{StepAnswer}
-use Rattle.tickets.specs.declared.StepAnswer.the-variants.{Claimed, Waiting, Found, Put, Returned, Granted, Stale}
+use Rattle.tickets.specs.declared.StepAnswer.the-variants.{Claimed, Waiting, Found, Put, Returned, Granted, Stale, Seen}
 use Rattle.tickets.specs.declared.LookAnswer.the-variants.{Held, Value}
 use Rattle.tickets.specs.Tickets.{target, noTicket, allWellMade, wellMade}
-use Rattle.tickets.specs.Steps.{swapTried, settled, stepOf, lookOf}
+use Rattle.tickets.specs.Steps.{swapTried, settled, valueNoted, stepOf, lookOf}
 use Rattle.tickets.specs.Invariant.{withSlot}
 
 -- A ticket that claims these targets, nothing claimed and nothing done.
@@ -92,3 +92,90 @@ look-held = refl
 look-value : lookOf (steps book giving (0 ∷ []) .words) 5 ≡ Value 0
 unfolding steps stepOf settled swapTried
 look-value = refl
+
+-- A view of these words, in the order that it claims them in and in the order named.
+abbrev viewing : List ℕ → List ℕ → Ticket
+viewing words names = record {
+  quoted = replicate (length words) 0;
+  new = names;
+  words = words;
+  n = length words;
+  tries = 0;
+  claimed = 0;
+  done = 0;
+  phase = Viewing;
+}
+
+-- What a view of one word and one of two words have seen.
+abbrev seenOne : ℕ → StepAnswer
+seenOne first = Seen record { n = 1; first = first; second = 0; third = 0; fourth = 0; fifth = 0; sixth = 0 }
+
+abbrev seenTwo : ℕ → ℕ → StepAnswer
+seenTwo first second = Seen record { n = 2; first = first; second = second; third = 0; fourth = 0; fifth = 0; sixth = 0 }
+
+-- A book in which word 3 is 7 and word 5 is 9.
+abbrev written : Words
+written = 0 ∷ 0 ∷ 0 ∷ 7 ∷ 0 ∷ 9 ∷ 0 ∷ 0 ∷ []
+
+-- Words 5 and 3, named in that order: they are claimed in the other one.
+abbrev both : Ticket
+both = viewing (3 ∷ 5 ∷ []) (5 ∷ 3 ∷ [])
+
+both-well-made : wellMade both ≡ true
+unfolding wellMade allWellMade allHold allOccur distinct
+both-well-made = refl
+
+-- A view names no word twice, and only words that it claims.
+named-twice : wellMade (viewing (3 ∷ 5 ∷ []) (3 ∷ 3 ∷ [])) ≡ false
+unfolding wellMade allWellMade allHold allOccur distinct
+named-twice = refl
+
+named-elsewhere : wellMade (viewing (3 ∷ 5 ∷ []) (3 ∷ 4 ∷ [])) ≡ false
+unfolding wellMade allWellMade allHold allOccur distinct
+named-elsewhere = refl
+
+-- A view alone: both claimed, both given back, the values in the order named, and the book as it was.
+view-alone : steps written (withSlot noTickets 2 both) (replicate 4 2) ≡ record { answers = Claimed 1 ∷ Claimed 2 ∷ Returned 1 ∷ seenTwo 9 7 ∷ []; words = written }
+unfolding steps stepOf settled swapTried valueNoted
+view-alone = refl
+
+-- The value found is noted, and the word is held.
+view-notes : stepOf written both 2 .0 .ticket .quoted ≡ 7 ∷ 0 ∷ []
+unfolding stepOf settled swapTried
+view-notes = refl
+
+view-holds : lookOf (steps written (withSlot noTickets 2 both) (2 ∷ []) .words) 3 ≡ Held
+unfolding steps stepOf settled swapTried
+view-holds = refl
+
+-- Team 1's view waits on a word that team 0 holds, and sees the value that team 0 puts.
+abbrev viewing-last : ℕ → Ticket
+viewing-last = withSlot (withSlot noTickets 0 (opened (target 3 7 8 ∷ []))) 1 (viewing (3 ∷ []) (3 ∷ []))
+
+view-waits : steps written viewing-last (0 ∷ 1 ∷ 0 ∷ 1 ∷ 1 ∷ [])
+    ≡ record {
+      answers = Claimed 1 ∷ Waiting 3 ∷ Granted 2 ∷ Claimed 1 ∷ seenOne 8 ∷ [];
+      words = 0 ∷ 0 ∷ 0 ∷ 8 ∷ 0 ∷ 9 ∷ 0 ∷ 0 ∷ [];
+    }
+unfolding steps stepOf settled swapTried valueNoted
+view-waits = refl
+
+-- Team 0's edit waits on a word that team 1's view holds: the view's words don't change between its steps, and what is put later is not seen.
+abbrev viewing-first : ℕ → Ticket
+viewing-first = withSlot (withSlot noTickets 0 (opened (target 3 7 8 ∷ []))) 1 both
+
+edit-waits : steps written viewing-first (1 ∷ 0 ∷ 1 ∷ 0 ∷ 1 ∷ 0 ∷ 0 ∷ 1 ∷ [])
+    ≡ record {
+      answers = Claimed 1 ∷ Waiting 3 ∷ Claimed 2 ∷ Waiting 3 ∷ Returned 1 ∷ Claimed 1 ∷ Granted 4 ∷ seenTwo 9 7 ∷ [];
+      words = 0 ∷ 0 ∷ 0 ∷ 8 ∷ 0 ∷ 9 ∷ 0 ∷ 0 ∷ [];
+    }
+unfolding steps stepOf settled swapTried valueNoted
+edit-waits = refl
+
+-- Two views of one word: the second waits, and both see its value.
+abbrev two-views : ℕ → Ticket
+two-views = withSlot (withSlot noTickets 0 (viewing (5 ∷ []) (5 ∷ []))) 1 (viewing (5 ∷ []) (5 ∷ []))
+
+views-meet : steps written two-views (0 ∷ 1 ∷ 0 ∷ 1 ∷ 1 ∷ []) ≡ record { answers = Claimed 1 ∷ Waiting 5 ∷ seenOne 9 ∷ Claimed 1 ∷ seenOne 9 ∷ []; words = written }
+unfolding steps stepOf settled swapTried valueNoted
+views-meet = refl

@@ -1,27 +1,27 @@
 -- How a ticket's changes keep the invariant: nothing taken or left, one more word claimed, one more word put or given back.
 use Prim.Native.Nat.{ℕ, _+_, _^_, _≤_, _<_}
 use mathlib.Core.Path.{_≡_, refl, sym, ap, subst, subst₂, _∙_}
-use mathlib.Core.List.{[], _∷_}
-use mathlib.Core.Bool.{true, false≢true}
+use mathlib.Core.List.{[], _∷_, map}
+use mathlib.Core.Bool.{true, false, false≢true}
 use mathlib.Core.Logic.{_≢_, _⊎_, inl, inr}
 use native.Mathlib.Omega.{arith}
 use native.Mathlib.Decide.{ℕ-discrete}
-use lib.Dec.{ltb}
+use lib.Dec.{eqb, ltb}
 use lib.ListN.{length, set, length-set}
 use lib.Seq.{getD-set-same, getD-set-other}
-use borrow.Author.Tests.{ltb-true, lt-ltb}
+use borrow.Author.Tests.{eqb-true, eq-eqb, ltb-true, lt-ltb}
 use Rattle.words.specs.Words.{Words, markOf, readOf}
 use Rattle.words.proofs.Tests.{split, join}
 use Rattle.tickets.specs.declared.Target.{Target}
 use Rattle.tickets.specs.declared.Phase.{Phase}
-use Rattle.tickets.specs.declared.Phase.the-variants.{NoTicket, Claiming, Putting, GivingBack}
+use Rattle.tickets.specs.declared.Phase.the-variants.{NoTicket, Claiming, Putting, GivingBack, Viewing, Viewed}
 use Rattle.tickets.specs.declared.Ticket.{Ticket}
-use Rattle.tickets.specs.Tickets.{noTicket, targetAt, targetsIn, hasTicket, countsWellMade}
+use Rattle.tickets.specs.Tickets.{noTicket, targetAt, hasTicket, isView, claims, countsWellMade, namesWellMade}
 use Rattle.tickets.specs.Steps.{advanced}
 use Rattle.tickets.specs.Targets.{Claimable}
 use Rattle.tickets.specs.Invariant.{withSlot, plainValue, Holds, FitTicket, FitSlot, HeldWord, Invariant}
 use Rattle.tickets.proofs.TargetLists.{ClaimableAt, claimable-at, targets-advanced}
-use Rattle.tickets.proofs.Changing.{HoldsSome, NoOthers, Becomes, stays, kept, left, changed}
+use Rattle.tickets.proofs.Changing.{HoldsSome, HeldAlike, NoOthers, Becomes, stays, kept, left, changed}
 
 -- The target that a claiming ticket tries next, and the one that is put or given back next.
 abbrev pub claimTarget : Ticket → Target
@@ -38,47 +38,128 @@ abbrev pub doneWords : Words → Ticket → Words
 doneWords words ticket = set words (doneTarget ticket .word) (plainValue (ticket .phase) (doneTarget ticket))
 
 -- The counts of a fit ticket, by its phase.
-pub claiming-counts : {size : ℕ} (ticket : Ticket) → FitTicket size ticket → ticket .phase ≡ Claiming → ticket .claimed < ticket .n
-claiming-counts ticket fit claiming = ltb-true _ _ (subst (λ phase. countsWellMade phase (ticket .n) (ticket .claimed) (ticket .done) ≡ true) claiming (fit .counts))
+module _ {size : ℕ} (ticket : Ticket) (fit : FitTicket size ticket) where
+  counts-in : (phase : Phase) → ticket .phase ≡ phase → countsWellMade phase (ticket .n) (ticket .claimed) (ticket .done) ≡ true
+  counts-in phase is = subst (λ phase. countsWellMade phase (ticket .n) (ticket .claimed) (ticket .done) ≡ true) is (fit .counts)
 
-pub putting-counts : {size : ℕ} (ticket : Ticket) → FitTicket size ticket → ticket .phase ≡ Putting → ticket .done < ticket .n
-putting-counts ticket fit putting = ltb-true _ _ (subst (λ phase. countsWellMade phase (ticket .n) (ticket .claimed) (ticket .done) ≡ true) putting (fit .counts))
+  pub claiming-counts : ticket .phase ≡ Claiming → ticket .claimed < ticket .n
+  claiming-counts claiming = ltb-true _ _ (counts-in Claiming claiming)
 
-pub giving-counts : {size : ℕ} (ticket : Ticket) → FitTicket size ticket → ticket .phase ≡ GivingBack → (ticket .done < ticket .claimed) × (ticket .claimed < ticket .n)
-giving-counts ticket fit giving =
-    let (below, (inside, u)) = split (ltb (ticket .done) (ticket .claimed) ∷ ltb (ticket .claimed) (ticket .n) ∷ []) (subst (λ phase. countsWellMade phase (ticket .n) (ticket .claimed) (ticket .done) ≡ true) giving (fit .counts)) in
-    (ltb-true _ _ below, ltb-true _ _ inside)
+  pub putting-counts : ticket .phase ≡ Putting → ticket .done < ticket .n
+  putting-counts putting = ltb-true _ _ (counts-in Putting putting)
+
+  pub giving-counts : ticket .phase ≡ GivingBack → (ticket .done < ticket .claimed) × (ticket .claimed < ticket .n)
+  giving-counts giving =
+      let (below, (inside, u)) = split (ltb (ticket .done) (ticket .claimed) ∷ ltb (ticket .claimed) (ticket .n) ∷ []) (counts-in GivingBack giving) in
+      (ltb-true _ _ below, ltb-true _ _ inside)
+
+  pub viewed-counts : ticket .phase ≡ Viewed → (ticket .done < ticket .claimed) × (ticket .claimed ≡ ticket .n)
+  viewed-counts viewed =
+      let (below, (all, u)) = split (ltb (ticket .done) (ticket .claimed) ∷ eqb (ticket .claimed) (ticket .n) ∷ []) (counts-in Viewed viewed) in
+      (ltb-true _ _ below, eqb-true _ _ all)
+
+  -- While it claims there is one more to claim, an edit's or a view's.
+  pub claims-counts : claims (ticket .phase) ≡ true → ticket .claimed < ticket .n
+  claims-counts = in-phase (ticket .phase) refl
+    where
+      in-phase : (phase : Phase) → ticket .phase ≡ phase → claims phase ≡ true → ticket .claimed < ticket .n
+      in-phase NoTicket is claiming = absurd (false≢true claiming)
+      in-phase Claiming is claiming = claiming-counts is
+      in-phase Putting is claiming = absurd (false≢true claiming)
+      in-phase GivingBack is claiming = absurd (false≢true claiming)
+      in-phase Viewing is claiming = ltb-true _ _ (counts-in Viewing is)
+      in-phase Viewed is claiming = absurd (false≢true claiming)
+
+  -- Later there is one more to put or to give back.
+  pub done-counts : hasTicket (ticket .phase) ≡ true → claims (ticket .phase) ≡ false → (ticket .done < ticket .claimed) × (ticket .claimed ≤ ticket .n)
+  done-counts = in-phase (ticket .phase) refl
+    where
+      in-phase : (phase : Phase) → ticket .phase ≡ phase → hasTicket phase ≡ true → claims phase ≡ false → (ticket .done < ticket .claimed) × (ticket .claimed ≤ ticket .n)
+      in-phase NoTicket is stands over = absurd (false≢true stands)
+      in-phase Claiming is stands over = absurd (false≢true (sym over))
+      in-phase Putting is stands over = let below = putting-counts is in let all = fit .all-claimed is in (omega arith, omega arith)
+      in-phase GivingBack is stands over = let (below, inside) = giving-counts is in (below, omega arith)
+      in-phase Viewing is stands over = absurd (false≢true (sym over))
+      in-phase Viewed is stands over = let (below, all) = viewed-counts is in (below, omega arith)
 
 -- A standing slot's ticket is fit.
 pub standing-fit : (size : ℕ) (ticket : Ticket) → FitSlot size ticket → hasTicket (ticket .phase) ≡ true → FitTicket size ticket
 standing-fit size ticket (inl none) stands = absurd (false≢true (sym (ap hasTicket none) ∙ stands))
 standing-fit size ticket (inr fit) stands = fit
 
--- A ticket that goes on with the same targets is fit, by the phase that it goes on in.
-module _ (size : ℕ) (ticket : Ticket) (claimable : Claimable size (targetsIn ticket)) (claimed done : ℕ) where
-  pub fit-claiming : claimed < ticket .n → done ≡ 0 → FitTicket size (advanced ticket Claiming claimed done)
-  fit-claiming below none-done = record {
-    claimable = subst (Claimable size) (sym (targets-advanced ticket Claiming claimed done)) claimable;
-    counts = lt-ltb claimed (ticket .n) below;
-    none-done = λ same. none-done;
-    all-claimed = λ other. let impossible : _≡_ {A = ℕ} 0 1 = cc in omega arith;
+-- A phase that claims: the ticket stands, a held word's plain value is the quoted one, and the counts are well made.
+pub claims-stand : (phase : Phase) → claims phase ≡ true → hasTicket phase ≡ true
+claims-stand NoTicket claiming = absurd (false≢true claiming)
+claims-stand Claiming claiming = refl
+claims-stand Putting claiming = refl
+claims-stand GivingBack claiming = refl
+claims-stand Viewing claiming = refl
+claims-stand Viewed claiming = refl
+
+pub claims-quoted : (phase : Phase) (target : Target) → claims phase ≡ true → plainValue phase target ≡ target .quoted
+claims-quoted NoTicket target claiming = refl
+claims-quoted Claiming target claiming = refl
+claims-quoted Putting target claiming = absurd (false≢true claiming)
+claims-quoted GivingBack target claiming = refl
+claims-quoted Viewing target claiming = refl
+claims-quoted Viewed target claiming = refl
+
+pub claims-well-made : (phase : Phase) (n claimed done : ℕ) → claims phase ≡ true → claimed < n → countsWellMade phase n claimed done ≡ true
+claims-well-made NoTicket n claimed done claiming below = absurd (false≢true claiming)
+claims-well-made Claiming n claimed done claiming below = lt-ltb claimed n below
+claims-well-made Putting n claimed done claiming below = absurd (false≢true claiming)
+claims-well-made GivingBack n claimed done claiming below = absurd (false≢true claiming)
+claims-well-made Viewing n claimed done claiming below = lt-ltb claimed n below
+claims-well-made Viewed n claimed done claiming below = absurd (false≢true claiming)
+
+-- A fit ticket that goes on with the same targets is fit, by the phase that it goes on in. A view stays a view.
+module _ (size : ℕ) (ticket : Ticket) (fit : FitTicket size ticket) (claimed done : ℕ) where
+  goes-on : (phase : Phase)
+      → countsWellMade phase (ticket .n) claimed done ≡ true
+      → (claims phase ≡ true → done ≡ 0)
+      → (phase ≡ Putting → claimed ≡ ticket .n)
+      → (isView phase ≡ true → isView (ticket .phase) ≡ true)
+      → FitTicket size (advanced ticket phase claimed done)
+  goes-on phase counts none-done all-claimed was-view = let same = sym (targets-advanced ticket phase claimed done) in record {
+    claimable = subst (Claimable size) same (fit .claimable);
+    counts = counts;
+    none-done = none-done;
+    all-claimed = all-claimed;
+    names = λ view. subst (λ targets. namesWellMade (map (λ one. one .new) targets) (map (λ one. one .word) targets) ≡ true) same (fit .names (was-view view));
+    room = λ view. fit .room (was-view view);
   }
+
+  pub fit-claiming : (phase : Phase) → claims phase ≡ true → (isView phase ≡ true → isView (ticket .phase) ≡ true) → claimed < ticket .n → done ≡ 0 → FitTicket size (advanced ticket phase claimed done)
+  fit-claiming phase claiming was-view below none-done =
+      goes-on phase (claims-well-made phase (ticket .n) claimed done claiming below) (λ same. none-done) (λ putting. absurd (false≢true (sym (ap claims putting) ∙ claiming))) was-view
 
   pub fit-putting : done < ticket .n → claimed ≡ ticket .n → FitTicket size (advanced ticket Putting claimed done)
-  fit-putting below all-claimed = record {
-    claimable = subst (Claimable size) (sym (targets-advanced ticket Putting claimed done)) claimable;
-    counts = lt-ltb done (ticket .n) below;
-    none-done = λ other. let impossible : _≡_ {A = ℕ} 0 1 = cc in omega arith;
-    all-claimed = λ same. all-claimed;
-  }
+  fit-putting below all-claimed =
+      goes-on Putting (lt-ltb done (ticket .n) below) (λ claiming. absurd (false≢true claiming)) (λ same. all-claimed) (λ view. absurd (false≢true view))
 
   pub fit-giving : done < claimed → claimed < ticket .n → FitTicket size (advanced ticket GivingBack claimed done)
-  fit-giving below inside = record {
-    claimable = subst (Claimable size) (sym (targets-advanced ticket GivingBack claimed done)) claimable;
-    counts = join (ltb done claimed ∷ ltb claimed (ticket .n) ∷ []) (lt-ltb done claimed below, (lt-ltb claimed (ticket .n) inside, tt));
-    none-done = λ other. let impossible : _≡_ {A = ℕ} 0 1 = cc in omega arith;
-    all-claimed = λ other. let impossible : _≡_ {A = ℕ} 0 1 = cc in omega arith;
-  }
+  fit-giving below inside =
+      goes-on GivingBack (join (ltb done claimed ∷ ltb claimed (ticket .n) ∷ []) (lt-ltb done claimed below, (lt-ltb claimed (ticket .n) inside, tt)))
+      (λ claiming. absurd (false≢true claiming)) (λ other. let impossible : _≡_ {A = ℕ} 0 1 = cc in omega arith) (λ view. absurd (false≢true view))
+
+  pub fit-viewed : isView (ticket .phase) ≡ true → done < claimed → claimed ≡ ticket .n → FitTicket size (advanced ticket Viewed claimed done)
+  fit-viewed was-view below all =
+      goes-on Viewed (join (ltb done claimed ∷ eqb claimed (ticket .n) ∷ []) (lt-ltb done claimed below, (eq-eqb claimed (ticket .n) all, tt)))
+      (λ claiming. absurd (false≢true claiming)) (λ other. let impossible : _≡_ {A = ℕ} 0 1 = cc in omega arith) (λ view. was-view)
+
+-- Likewise with one more put or given back, and one left: the phase stays.
+pub fit-done : {size : ℕ} (ticket : Ticket) → FitTicket size ticket → claims (ticket .phase) ≡ false → ticket .done + 1 < ticket .claimed
+    → FitTicket size (advanced ticket (ticket .phase) (ticket .claimed) (ticket .done + 1))
+fit-done {size} ticket fit over below = goes-on size ticket fit (ticket .claimed) (ticket .done + 1) (ticket .phase) (counted (ticket .phase) refl)
+    (λ claiming. absurd (false≢true (sym over ∙ claiming))) (fit .all-claimed) (λ view. view)
+  where
+    counted : (phase : Phase) → ticket .phase ≡ phase → countsWellMade phase (ticket .n) (ticket .claimed) (ticket .done + 1) ≡ true
+    counted NoTicket is = counts-in ticket fit NoTicket is
+    counted Claiming is = counts-in ticket fit Claiming is
+    counted Putting is = lt-ltb (ticket .done + 1) (ticket .n) (omega (arith, fit .all-claimed is))
+    counted GivingBack is = join (ltb (ticket .done + 1) (ticket .claimed) ∷ ltb (ticket .claimed) (ticket .n) ∷ []) (lt-ltb _ _ below, (lt-ltb _ _ (giving-counts ticket fit is .1), tt))
+    counted Viewing is = counts-in ticket fit Viewing is
+    counted Viewed is = join (ltb (ticket .done + 1) (ticket .claimed) ∷ eqb (ticket .claimed) (ticket .n) ∷ []) (lt-ltb _ _ below, (eq-eqb _ _ (viewed-counts ticket fit is .1), tt))
 
 -- A finished ticket holds nothing.
 pub nothing-held {ℓ} : {A : Type ℓ} {word value : ℕ} → Holds noTicket word value → A
@@ -90,6 +171,8 @@ value-fits ticket apt NoTicket k below = apt .quoted k below
 value-fits ticket apt Claiming k below = apt .quoted k below
 value-fits ticket apt Putting k below = apt .new k below
 value-fits ticket apt GivingBack k below = apt .quoted k below
+value-fits ticket apt Viewing k below = apt .quoted k below
+value-fits ticket apt Viewed k below = apt .quoted k below
 
 -- An advanced ticket holds what it has claimed and not done.
 pub holds-at : (ticket : Ticket) (phase : Phase) (claimed done k word : ℕ) → hasTicket phase ≡ true → done ≤ k → k < claimed → targetAt ticket k .word ≡ word → HoldsSome (advanced ticket phase claimed done) word
@@ -98,88 +181,116 @@ holds-at ticket phase claimed done k word stands not-done below its-word =
 
 module _ {words : Words} {tickets : ℕ → Ticket} {plain : ℕ → ℕ} (i : Invariant words tickets plain) (team : ℕ) where
   -- Nothing is taken and nothing is left.
-  pub same-held : (new : Ticket) → FitSlot (length words) new
-      → ((word value : ℕ) → Holds new word value → Holds (tickets team) word value)
-      → ((word value : ℕ) → Holds (tickets team) word value → HoldsSome new word)
-      → Invariant words (withSlot tickets team new) plain
-  same-held new fit to from =
-      changed i team words plain new refl fit (λ word value holds. i .held team word value (to word value holds)) (λ word inside. stays refl refl (from word))
+  pub same-held : (new : Ticket) → FitSlot (length words) new → HeldAlike (tickets team) new → Invariant words (withSlot tickets team new) plain
+  same-held new fit alike =
+      changed i team words plain new refl fit (λ word value holds. i .held team word value (alike .held-before word value holds)) (λ word inside. stays refl refl (alike .held-after word))
 
-  -- One more word is claimed, which was as quoted.
-  module _ (fit : FitTicket (length words) (tickets team)) (claiming : tickets team .phase ≡ Claiming)
-      (quoted : readOf words (claimTarget (tickets team) .word) ≡ claimTarget (tickets team) .quoted) where
-    apt : ClaimableAt (length words) (tickets team)
-    apt = claimable-at (length words) (tickets team) (fit .claimable)
+  -- A ticket goes on, in a phase in which the plain values are the quoted ones, with all that is claimed held.
+  pub holds-on : (phase : Phase) (done : ℕ) → claims (tickets team .phase) ≡ true → tickets team .done ≡ 0 → done ≡ 0 → hasTicket phase ≡ true
+      → ((k : ℕ) → plainValue phase (targetAt (tickets team) k) ≡ targetAt (tickets team) k .quoted)
+      → FitTicket (length words) (advanced (tickets team) phase (tickets team .claimed) done)
+      → Invariant words (withSlot tickets team (advanced (tickets team) phase (tickets team .claimed) done)) plain
+  holds-on phase done claiming none-before none-done stands values fit-now = same-held _ (inr fit-now) record {
+    held-before = λ word value holds. record {
+      stands = claims-stand (tickets team .phase) claiming;
+      at = holds .at;
+      not-done = omega arith;
+      claimed = holds .claimed;
+      its-word = holds .its-word;
+      its-value = claims-quoted (tickets team .phase) (targetAt (tickets team) (holds .at)) claiming ∙ sym (values (holds .at)) ∙ holds .its-value;
+    };
+    held-after = λ word value holds. holds-at (tickets team) phase (tickets team .claimed) done (holds .at) word stands (omega arith) (holds .claimed) (holds .its-word);
+  }
 
-    below-n : tickets team .claimed < tickets team .n
-    below-n = claiming-counts (tickets team) fit claiming
+  -- One more word is claimed, which was as quoted. A view has noted before what it quotes then; it holds the same.
+  module _ (ticket : Ticket) (fit : FitTicket (length words) ticket) (claiming : claims (ticket .phase) ≡ true) (alike : HeldAlike (tickets team) ticket)
+      (quoted : readOf words (claimTarget ticket .word) ≡ claimTarget ticket .quoted) where
+    apt : ClaimableAt (length words) ticket
+    apt = claimable-at (length words) ticket (fit .claimable)
+
+    below-n : ticket .claimed < ticket .n
+    below-n = claims-counts ticket fit claiming
 
     -- What was claimed before.
-    was-held : (k : ℕ) → k < tickets team .claimed → HeldWord words plain team (targetAt (tickets team) k .word) (targetAt (tickets team) k .quoted)
-    was-held k below = i .held team _ _ record {
-      stands = ap hasTicket claiming;
+    was-held : (k : ℕ) → k < ticket .claimed → HeldWord words plain team (targetAt ticket k .word) (targetAt ticket k .quoted)
+    was-held k below = i .held team _ _ (alike .held-before _ _ record {
+      stands = claims-stand (ticket .phase) claiming;
       at = k;
       not-done = omega (arith, fit .none-done claiming);
       claimed = below;
       its-word = refl;
-      its-value = ap (λ phase. plainValue phase (targetAt (tickets team) k)) claiming;
-    }
+      its-value = claims-quoted (ticket .phase) (targetAt ticket k) claiming;
+    })
 
-    no-others : (k : ℕ) → k < tickets team .claimed + 1 → NoOthers words team (targetAt (tickets team) k .word)
-    no-others k below = elim (ℕ-discrete k (tickets team .claimed)) [
-      | yes last ↦ inl (rw last (omega (arith, quoted, apt .quoted (tickets team .claimed) below-n)))
+    no-others : (k : ℕ) → k < ticket .claimed + 1 → NoOthers words team (targetAt ticket k .word)
+    no-others k below = elim (ℕ-discrete k (ticket .claimed)) [
+      | yes last ↦ inl (rw last (omega (arith, quoted, apt .quoted (ticket .claimed) below-n)))
       | no before ↦ inr (was-held k (omega arith) .marked)
     ]
 
     -- All quoted values so far are the plain words.
-    pub plain-quoted : (k : ℕ) → k < tickets team .claimed + 1 → plain (targetAt (tickets team) k .word) ≡ targetAt (tickets team) k .quoted
-    plain-quoted k below = elim (ℕ-discrete k (tickets team .claimed)) [
-      | yes last ↦ rw last (sym (i .free _ (apt .inside _ below-n) (omega (arith, quoted, apt .quoted (tickets team .claimed) below-n))) ∙ quoted)
+    pub plain-quoted : (k : ℕ) → k < ticket .claimed + 1 → plain (targetAt ticket k .word) ≡ targetAt ticket k .quoted
+    plain-quoted k below = elim (ℕ-discrete k (ticket .claimed)) [
+      | yes last ↦ rw last (sym (i .free _ (apt .inside _ below-n) (omega (arith, quoted, apt .quoted (ticket .claimed) below-n))) ∙ quoted)
       | no before ↦ was-held k (omega arith) .plain-is
     ]
 
-    marked-now : (k : ℕ) → k < tickets team .claimed + 1 → readOf (claimedWords words (tickets team) team) (targetAt (tickets team) k .word) ≡ markOf team
-    marked-now k below = elim (ℕ-discrete k (tickets team .claimed)) [
+    marked-now : (k : ℕ) → k < ticket .claimed + 1 → readOf (claimedWords words ticket team) (targetAt ticket k .word) ≡ markOf team
+    marked-now k below = elim (ℕ-discrete k (ticket .claimed)) [
       | yes last ↦ rw last (getD-set-same words _ (markOf team) 0 (apt .inside _ below-n))
-      | no before ↦ getD-set-other words _ _ (markOf team) 0 (λ same. before (apt .once k (tickets team .claimed) (omega (arith, below-n)) below-n same)) ∙ was-held k (omega arith) .marked
+      | no before ↦ getD-set-other words _ _ (markOf team) 0 (λ same. before (apt .once k (ticket .claimed) (omega (arith, below-n)) below-n same)) ∙ was-held k (omega arith) .marked
     ]
 
     -- The plain words may change where the team holds them, if they become the values that the ticket gives them now.
     pub claim-keeps : (phase : Phase) (done : ℕ) (after : ℕ → ℕ)
         → hasTicket phase ≡ true
         → done ≡ 0
-        → FitTicket (length words) (advanced (tickets team) phase (tickets team .claimed + 1) done)
-        → ((k : ℕ) → k < tickets team .claimed + 1 → after (targetAt (tickets team) k .word) ≡ plainValue phase (targetAt (tickets team) k))
-        → ((word : ℕ) → ((k : ℕ) × (k < tickets team .claimed + 1) × (targetAt (tickets team) k .word ≡ word)) ⊎ (after word ≡ plain word))
-        → Invariant (claimedWords words (tickets team) team) (withSlot tickets team (advanced (tickets team) phase (tickets team .claimed + 1) done)) after
+        → FitTicket (length words) (advanced ticket phase (ticket .claimed + 1) done)
+        → ((k : ℕ) → k < ticket .claimed + 1 → after (targetAt ticket k .word) ≡ plainValue phase (targetAt ticket k))
+        → ((word : ℕ) → ((k : ℕ) × (k < ticket .claimed + 1) × (targetAt ticket k .word ≡ word)) ⊎ (after word ≡ plain word))
+        → Invariant (claimedWords words ticket team) (withSlot tickets team (advanced ticket phase (ticket .claimed + 1) done)) after
     claim-keeps phase done after stands none-done fit-now values elsewhere =
-        changed i team (claimedWords words (tickets team) team) after new (length-set words _ (markOf team)) (inr fit-now) mine each
+        changed i team (claimedWords words ticket team) after new (length-set words _ (markOf team)) (inr fit-now) mine each
       where
         new : Ticket
-        new = advanced (tickets team) phase (tickets team .claimed + 1) done
+        new = advanced ticket phase (ticket .claimed + 1) done
 
-        mine : (word value : ℕ) → Holds new word value → HeldWord (claimedWords words (tickets team) team) after team word value
+        mine : (word value : ℕ) → Holds new word value → HeldWord (claimedWords words ticket team) after team word value
         mine word value holds =
-            let inside-n : holds .at < tickets team .n = omega (arith, holds .claimed, below-n) in
-            subst₂ (λ word value. HeldWord (claimedWords words (tickets team) team) after team word value) (holds .its-word) (holds .its-value) record {
+            let inside-n : holds .at < ticket .n = omega (arith, holds .claimed, below-n) in
+            subst₂ (λ word value. HeldWord (claimedWords words ticket team) after team word value) (holds .its-word) (holds .its-value) record {
               inside = rw length-set (apt .inside (holds .at) inside-n);
               marked = marked-now (holds .at) (holds .claimed);
               plain-is = values (holds .at) (holds .claimed);
-              is-value = value-fits (tickets team) apt phase (holds .at) inside-n;
+              is-value = value-fits ticket apt phase (holds .at) inside-n;
             }
 
-        now : (k word : ℕ) → k < tickets team .claimed + 1 → targetAt (tickets team) k .word ≡ word → Becomes words (claimedWords words (tickets team) team) plain after team (tickets team) new word
-        now k word below its-word = kept (subst (NoOthers words team) its-word (no-others k below)) (holds-at (tickets team) phase (tickets team .claimed + 1) done k word stands (omega arith) below its-word)
+        now : (k word : ℕ) → k < ticket .claimed + 1 → targetAt ticket k .word ≡ word → Becomes words (claimedWords words ticket team) plain after team (tickets team) new word
+        now k word below its-word = kept (subst (NoOthers words team) its-word (no-others k below)) (holds-at ticket phase (ticket .claimed + 1) done k word stands (omega arith) below its-word)
 
-        each : (word : ℕ) → word < length words → Becomes words (claimedWords words (tickets team) team) plain after team (tickets team) new word
+        holds-too : (word value : ℕ) → Holds (tickets team) word value → HoldsSome new word
+        holds-too word value holds =
+            let (plain-value, before) = alike .held-after word value holds in
+            holds-at ticket phase (ticket .claimed + 1) done (before .at) word stands (omega arith) (omega (arith, before .claimed)) (before .its-word)
+
+        each : (word : ℕ) → word < length words → Becomes words (claimedWords words ticket team) plain after team (tickets team) new word
         each word inside = elim (elsewhere word) [
           | inl one ↦ now (one .0) word (one .1) (one .2)
-          | inr same ↦ elim (ℕ-discrete word (claimTarget (tickets team) .word)) [
-            | yes it ↦ now (tickets team .claimed) word (omega arith) (sym it)
-            | no other ↦ stays (getD-set-other words (claimTarget (tickets team) .word) word (markOf team) 0 other) same
-                (λ value holds. holds-at (tickets team) phase (tickets team .claimed + 1) done (holds .at) word stands (omega arith) (omega (arith, holds .claimed)) (holds .its-word))
+          | inr same ↦ elim (ℕ-discrete word (claimTarget ticket .word)) [
+            | yes it ↦ now (ticket .claimed) word (omega arith) (sym it)
+            | no other ↦ stays (getD-set-other words (claimTarget ticket .word) word (markOf team) 0 other) same (holds-too word)
           ]
         ]
+
+    -- The plain words stay, where the ticket goes on in a phase in which the plain values are the quoted ones.
+    pub claim-keeps-plain : (phase : Phase) (done : ℕ)
+        → hasTicket phase ≡ true
+        → done ≡ 0
+        → ((k : ℕ) → plainValue phase (targetAt ticket k) ≡ targetAt ticket k .quoted)
+        → FitTicket (length words) (advanced ticket phase (ticket .claimed + 1) done)
+        → Invariant (claimedWords words ticket team) (withSlot tickets team (advanced ticket phase (ticket .claimed + 1) done)) plain
+    claim-keeps-plain phase done stands none-done values fit-now =
+        claim-keeps phase done plain stands none-done fit-now (λ k below. plain-quoted k below ∙ sym (values k)) (λ word. inr refl)
 
   -- One more word is put or given back: it gets its plain value, and is held no more.
   module _ (fit : FitTicket (length words) (tickets team)) (stands : hasTicket (tickets team .phase) ≡ true)

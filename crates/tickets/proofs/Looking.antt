@@ -1,6 +1,6 @@
 -- What the invariant says of a word: a look shows the plain word or a held one, a word that nobody holds is the plain word, a held one has one holder.
 use Prim.Native.Nat.{_^_, _≤_, _<_}
-use mathlib.Core.Path.{_≡_, refl, sym, subst, _∙_}
+use mathlib.Core.Path.{_≡_, refl, sym, ap, subst, _∙_}
 use mathlib.Core.Bool.{Bool, true, false, cond, false≢true}
 use mathlib.Core.Logic.{_↔_}
 use native.Mathlib.Omega.{arith}
@@ -8,9 +8,9 @@ use native.Mathlib.Decide.{decLt}
 use borrow.Author.Tests.{leb-true, leb-false}
 use Rattle.words.specs.Words.{isHeld, readOf}
 use Rattle.tickets.specs.declared.Phase.{Phase}
-use Rattle.tickets.specs.declared.Phase.the-variants.{NoTicket, Claiming, Putting, GivingBack}
+use Rattle.tickets.specs.declared.Phase.the-variants.{NoTicket, Claiming, Putting, GivingBack, Viewing, Viewed}
 use Rattle.tickets.specs.declared.LookAnswer.the-variants.{Held, Value}
-use Rattle.tickets.specs.Tickets.{countsWellMade}
+use Rattle.tickets.specs.Tickets.{claims, countsWellMade}
 use Rattle.tickets.specs.Invariant.{HeldTarget, HeldByPhase, OneHolder, PlainAlike, LookRight, LooksRight, UnheldPlain}
 
 pub looks-right : LooksRight
@@ -48,6 +48,8 @@ held-by-phase size ticket k fit = in-phase (ticket .phase) refl
   where
     in-phase : (phase : Phase) → ticket .phase ≡ phase → HeldTarget phase ticket k ↔ ((ticket .done ≤ k) × (k < ticket .claimed))
     in-phase NoTicket none = ((λ held. absurd held), (λ held. false≢true (subst (λ phase. countsWellMade phase (ticket .n) (ticket .claimed) (ticket .done) ≡ true) none (fit .counts))))
-    in-phase Claiming claiming = let none = fit .none-done claiming in ((λ held. (omega arith, held)), (λ held. held .1))
+    in-phase Claiming claiming = let none = fit .none-done (ap claims claiming) in ((λ held. (omega arith, held)), (λ held. held .1))
     in-phase Putting putting = let all = fit .all-claimed putting in ((λ held. (held .0, omega arith)), (λ held. (held .0, omega arith)))
     in-phase GivingBack giving = ((λ held. held), (λ held. held))
+    in-phase Viewing viewing = let none = fit .none-done (ap claims viewing) in ((λ held. (omega arith, held)), (λ held. held .1))
+    in-phase Viewed viewed = ((λ held. held), (λ held. held))

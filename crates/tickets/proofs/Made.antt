@@ -1,34 +1,30 @@
 -- What a well-made ticket says of its counts and targets, as facts on numbers; and the test of its targets, one after the other.
 use Prim.Native.Nat.{ℕ, zero, suc, _+_, _-_, _^_, _≤_, _<_}
-use mathlib.Core.Path.{_≡_, refl, sym, ap, subst, _∙_}
-use mathlib.Core.List.{[], _∷_}
+use mathlib.Core.Path.{_≡_, refl, ap, subst, _∙_}
+use mathlib.Core.List.{List, [], _∷_}
 use mathlib.Core.Bool.{Bool, true, false, cond, false≢true}
 use native.Mathlib.Omega.{arith}
 use native.Mathlib.Decide.{ℕ-discrete}
-use native.Mathlib.Nat.{not-suc-le-zero}
-use borrow.Author.Tests.{le-leb, lt-leb, leb-true, ltb-true}
-use lib.Dec.{leb, ltb}
-use Rattle.words.specs.Tests.{allHold, within}
+use borrow.Author.Tests.{le-leb, lt-leb, leb-true, ltb-true, eqb-true}
+use lib.Dec.{eqb, leb, ltb}
+use Rattle.words.specs.Tests.{within}
 use Rattle.words.specs.Words.{wordsInBook, mostTargets, isValue}
 use Rattle.words.proofs.Tests.{split, join, next-test, failed-test, last-test}
 use Rattle.tickets.specs.declared.Target.{Target}
 use Rattle.tickets.specs.declared.Phase.{Phase}
-use Rattle.tickets.specs.declared.Phase.the-variants.{NoTicket, Claiming, Putting, GivingBack}
+use Rattle.tickets.specs.declared.Phase.the-variants.{NoTicket, Claiming, Putting, GivingBack, Viewing, Viewed}
 use Rattle.tickets.specs.declared.Ticket.{Ticket}
-use Rattle.tickets.specs.Tickets.{targetAt, targetsFrom, targetsIn, targetWellMade, allWellMade, countsWellMade, wellMade}
+use Rattle.tickets.specs.Tickets.{targetAt, targetsFrom, targetsIn, targetWellMade, allWellMade, countsWellMade, viewWellMade, wellMade}
+use Rattle.tickets.proofs.TargetLists.{next-target, no-target-left}
 
 -- The targets' test, from target k on.
 pub peel : (ticket : Ticket) (n k : ℕ) → k < n → allWellMade (targetsFrom k (n - k) ticket) ≡ cond (targetWellMade (targetAt ticket k)) (allWellMade (targetsFrom (k + 1) (n - (k + 1)) ticket)) false
 unfolding allWellMade
-peel ticket n k l =
-    let one-more : n - k ≡ suc (n - (k + 1)) = omega arith in
-    ap (λ (m : ℕ). allWellMade (targetsFrom k m ticket)) one-more
+peel ticket n k l = ap allWellMade (next-target ticket n k l)
 
 pub none-left : (ticket : Ticket) (n k : ℕ) → n ≤ k → allWellMade (targetsFrom k (n - k) ticket) ≡ true
 unfolding allWellMade
-none-left ticket n k l =
-    let none : n - k ≡ 0 = omega arith in
-    ap (λ (m : ℕ). allWellMade (targetsFrom k m ticket)) none
+none-left ticket n k l = ap allWellMade (no-target-left ticket n k l)
 
 -- The whole test, by its parts.
 pub too-few : (ticket : Ticket) → ticket .n < 1 → wellMade ticket ≡ false
@@ -46,26 +42,39 @@ pub bad-target : (ticket : Ticket) → 1 ≤ ticket .n → ticket .n ≤ mostTar
 unfolding wellMade
 bad-target ticket least most bad = next-test _ _ (in-number (ticket .n) least most) ∙ failed-test _ _ bad
 
-pub by-counts : (ticket : Ticket) → 1 ≤ ticket .n → ticket .n ≤ mostTargets → allWellMade (targetsIn ticket) ≡ true → wellMade ticket ≡ countsWellMade (ticket .phase) (ticket .n) (ticket .claimed) (ticket .done)
+pub bad-counts : (ticket : Ticket) → 1 ≤ ticket .n → ticket .n ≤ mostTargets → allWellMade (targetsIn ticket) ≡ true → countsWellMade (ticket .phase) (ticket .n) (ticket .claimed) (ticket .done) ≡ false → wellMade ticket ≡ false
 unfolding wellMade
-by-counts ticket least most good = next-test _ _ (in-number (ticket .n) least most) ∙ next-test _ _ good ∙ last-test _
+bad-counts ticket least most good bad = next-test _ _ (in-number (ticket .n) least most) ∙ next-test _ _ good ∙ failed-test _ _ bad
+
+pub by-view : (ticket : Ticket) → 1 ≤ ticket .n → ticket .n ≤ mostTargets → allWellMade (targetsIn ticket) ≡ true → countsWellMade (ticket .phase) (ticket .n) (ticket .claimed) (ticket .done) ≡ true → wellMade ticket ≡ viewWellMade (ticket .phase) ticket
+unfolding wellMade
+by-view ticket least most good counts = next-test _ _ (in-number (ticket .n) least most) ∙ next-test _ _ good ∙ next-test _ _ counts ∙ last-test _
 
 -- What makes a ticket well made.
 pub record WellMade (ticket : Ticket) : Type 0 where
   pub many : within 1 mostTargets (ticket .n) ≡ true
   pub targets : allWellMade (targetsIn ticket) ≡ true
   pub counts : countsWellMade (ticket .phase) (ticket .n) (ticket .claimed) (ticket .done) ≡ true
+  pub view : viewWellMade (ticket .phase) ticket ≡ true
+
+-- The four tests of a ticket.
+abbrev testsOf : Ticket → List Bool
+testsOf ticket =
+    within 1 mostTargets (ticket .n)
+    ∷ allWellMade (targetsIn ticket)
+    ∷ countsWellMade (ticket .phase) (ticket .n) (ticket .claimed) (ticket .done)
+    ∷ viewWellMade (ticket .phase) ticket
+    ∷ []
 
 pub well-made-parts : (ticket : Ticket) → wellMade ticket ≡ true → WellMade ticket
 unfolding wellMade
 well-made-parts ticket made =
-    let (many, (targets, (counts, u))) = split (within 1 mostTargets (ticket .n) ∷ allWellMade (targetsIn ticket) ∷ countsWellMade (ticket .phase) (ticket .n) (ticket .claimed) (ticket .done) ∷ []) made in
-    record { many = many; targets = targets; counts = counts }
+    let (many, (targets, (counts, (view, u)))) = split (testsOf ticket) made in
+    record { many = many; targets = targets; counts = counts; view = view }
 
 pub parts-well-made : (ticket : Ticket) → WellMade ticket → wellMade ticket ≡ true
 unfolding wellMade
-parts-well-made ticket made =
-    join (within 1 mostTargets (ticket .n) ∷ allWellMade (targetsIn ticket) ∷ countsWellMade (ticket .phase) (ticket .n) (ticket .claimed) (ticket .done) ∷ []) (made .many, (made .targets, (made .counts, tt)))
+parts-well-made ticket made = join (testsOf ticket) (made .many, (made .targets, (made .counts, (made .view, tt))))
 
 -- Its targets and counts, as facts.
 pub record TargetFits (target : Target) : Type 0 where
@@ -118,6 +127,8 @@ CountsFit NoTicket n claimed done = ⊥
 CountsFit Claiming n claimed done = claimed < n
 CountsFit Putting n claimed done = done < n
 CountsFit GivingBack n claimed done = (done < claimed) × (claimed < n)
+CountsFit Viewing n claimed done = claimed < n
+CountsFit Viewed n claimed done = (done < claimed) × (claimed ≡ n)
 
 pub counts-fit : (phase : Phase) (n claimed done : ℕ) → countsWellMade phase n claimed done ≡ true → CountsFit phase n claimed done
 counts-fit NoTicket n claimed done h = false≢true h
@@ -126,6 +137,10 @@ counts-fit Putting n claimed done h = ltb-true _ _ h
 counts-fit GivingBack n claimed done h =
     let (d, (c, u)) = split (ltb done claimed ∷ ltb claimed n ∷ []) h in
     (ltb-true _ _ d, ltb-true _ _ c)
+counts-fit Viewing n claimed done h = ltb-true _ _ h
+counts-fit Viewed n claimed done h =
+    let (d, (c, u)) = split (ltb done claimed ∷ eqb claimed n ∷ []) h in
+    (ltb-true _ _ d, eqb-true _ _ c)
 
 -- The counts' test of a ticket in a known phase.
 pub counts-of : (ticket : Ticket) (phase : Phase) → ticket .phase ≡ phase → countsWellMade (ticket .phase) (ticket .n) (ticket .claimed) (ticket .done) ≡ countsWellMade phase (ticket .n) (ticket .claimed) (ticket .done)

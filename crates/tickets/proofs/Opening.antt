@@ -1,15 +1,14 @@
 -- The invariant holds at the start, and after a ticket is opened.
 use Prim.Native.Nat.{ℕ, _<_}
-use mathlib.Core.Path.{_≡_, sym, ap, subst, _∙_}
-use mathlib.Core.Bool.{true, true≢false}
+use mathlib.Core.Path.{sym, ap, _∙_}
+use mathlib.Core.Bool.{true≢false}
 use mathlib.Core.Logic.{inl, inr}
 use native.Mathlib.Omega.{arith}
 use lib.ListN.{length, length-replicate, getD-replicate}
-use borrow.Author.Tests.{lt-ltb}
-use Rattle.tickets.specs.Tickets.{hasTicket, countsWellMade}
+use Rattle.tickets.specs.Tickets.{hasTicket, claims}
 use Rattle.tickets.specs.Invariant.{FitTicket, HoldsAtStart, OpeningKeeps}
 use Rattle.tickets.proofs.TargetLists.{claimable-at}
-use Rattle.tickets.proofs.Keeping.{same-held}
+use Rattle.tickets.proofs.Keeping.{claims-well-made, same-held}
 
 pub holds-at-start : HoldsAtStart
 holds-at-start size tickets plain none zero-words = record {
@@ -20,15 +19,18 @@ holds-at-start size tickets plain none zero-words = record {
 }
 
 pub opening-keeps : OpeningKeeps
-opening-keeps words tickets plain team opened i none new = same-held i team opened (inr fit)
-    (λ word value holds. absurd (omega (arith, holds .claimed, new .none-claimed)))
-    (λ word value holds. absurd (true≢false (sym (holds .stands) ∙ none)))
+opening-keeps words tickets plain team opened i none new = same-held i team opened (inr fit) record {
+  held-before = λ word value holds. absurd (omega (arith, holds .claimed, new .none-claimed));
+  held-after = λ word value holds. absurd (true≢false (sym (holds .stands) ∙ none));
+}
   where
     fit : FitTicket (length words) opened
     fit = record {
       claimable = new .claimable;
-      counts = subst (λ phase. countsWellMade phase (opened .n) (opened .claimed) (opened .done) ≡ true) (sym (new .claiming))
-          (lt-ltb (opened .claimed) (opened .n) (omega (arith, claimable-at (length words) opened (new .claimable) .some, new .none-claimed)));
+      counts = claims-well-made (opened .phase) (opened .n) (opened .claimed) (opened .done) (new .opens)
+          (omega (arith, claimable-at (length words) opened (new .claimable) .some, new .none-claimed));
       none-done = λ e. new .none-done;
-      all-claimed = λ putting. let claiming = new .claiming in let impossible : _≡_ {A = ℕ} 0 1 = cc in omega arith;
+      all-claimed = λ putting. absurd (true≢false (sym (new .opens) ∙ ap claims putting));
+      names = new .names;
+      room = new .room;
     }

@@ -1,4 +1,4 @@
--- A standing ticket's step ends in one of nine ways: the tests of `settled`, as facts.
+-- A standing ticket's step ends in one of fourteen ways: the tests of `settled`, as facts.
 use Prim.Native.Nat.{ℕ, _+_, _^_, _≤_, _<_}
 use mathlib.Core.Path.{_≡_, refl, _∙_}
 use mathlib.Core.Bool.{Bool, true, false, false≢true}
@@ -7,11 +7,11 @@ use lib.Dec.{eqb}
 use borrow.Author.Tests.{eqb-true, eqb-false, leb-true, leb-false}
 use Rattle.words.specs.Words.{isHeld}
 use Rattle.tickets.specs.declared.Phase.{Phase}
-use Rattle.tickets.specs.declared.Phase.the-variants.{NoTicket, Claiming, Putting, GivingBack}
+use Rattle.tickets.specs.declared.Phase.the-variants.{NoTicket, Claiming, Putting, GivingBack, Viewing, Viewed}
 use Rattle.tickets.specs.declared.Ticket.{Ticket}
-use Rattle.tickets.specs.declared.StepAnswer.the-variants.{Claimed, Waiting, Found, Put, Returned, Granted, Stale}
+use Rattle.tickets.specs.declared.StepAnswer.the-variants.{Claimed, Waiting, Found, Put, Returned, Granted, Stale, Seen}
 use Rattle.tickets.specs.Tickets.{noTicket, targetAt, hasTicket}
-use Rattle.tickets.specs.Steps.{oneMoreTry, advanced, stepped, settled}
+use Rattle.tickets.specs.Steps.{oneMoreTry, advanced, stepped, noting, valuesSeen, settled}
 use Rattle.tickets.proofs.Settled.{settled-in}
 
 pub data Outcome (ticket : Ticket) (found : ℕ) : Type 0 where
@@ -58,6 +58,28 @@ pub data Outcome (ticket : Ticket) (found : ℕ) : Type 0 where
       → ticket .done + 1 ≡ ticket .claimed
       → settled ticket found ≡ stepped noTicket (Stale (targetAt ticket (ticket .claimed) .word) (oneMoreTry (ticket .tries)))
       → Outcome ticket found
+  notes-one : ticket .phase ≡ Viewing
+      → found < 2 ^ 63
+      → ticket .claimed + 1 ≢ ticket .n
+      → settled ticket found ≡ stepped (advanced (noting ticket found) Viewing (ticket .claimed + 1) (ticket .done)) (Claimed (ticket .claimed + 1))
+      → Outcome ticket found
+  notes-last : ticket .phase ≡ Viewing
+      → found < 2 ^ 63
+      → ticket .claimed + 1 ≡ ticket .n
+      → settled ticket found ≡ stepped (advanced (noting ticket found) Viewed (ticket .claimed + 1) 0) (Claimed (ticket .claimed + 1))
+      → Outcome ticket found
+  view-waits : ticket .phase ≡ Viewing
+      → 2 ^ 63 ≤ found
+      → settled ticket found ≡ stepped (advanced ticket Viewing (ticket .claimed) (ticket .done)) (Waiting (targetAt ticket (ticket .claimed) .word))
+      → Outcome ticket found
+  view-returns-one : ticket .phase ≡ Viewed
+      → ticket .done + 1 ≢ ticket .claimed
+      → settled ticket found ≡ stepped (advanced ticket Viewed (ticket .claimed) (ticket .done + 1)) (Returned (ticket .done + 1))
+      → Outcome ticket found
+  view-returns-last : ticket .phase ≡ Viewed
+      → ticket .done + 1 ≡ ticket .claimed
+      → settled ticket found ≡ stepped noTicket (Seen (valuesSeen ticket))
+      → Outcome ticket found
 
 module _ (ticket : Ticket) (found : ℕ) where
   claiming-outcome : ticket .phase ≡ Claiming → (as-quoted last held none : Bool)
@@ -80,11 +102,25 @@ module _ (ticket : Ticket) (found : ℕ) where
   giving-outcome is true l = returns-last is (eqb-true _ _ l) (settled-in ticket found GivingBack is ∙ rw l)
   giving-outcome is false l = returns-one is (eqb-false _ _ l) (settled-in ticket found GivingBack is ∙ rw l)
 
+  viewing-outcome : ticket .phase ≡ Viewing → (held last : Bool)
+      → isHeld found ≡ held
+      → eqb (ticket .claimed + 1) (ticket .n) ≡ last
+      → Outcome ticket found
+  viewing-outcome is true last h l = view-waits is (leb-true (2 ^ 63) found h) (settled-in ticket found Viewing is ∙ rw h)
+  viewing-outcome is false true h l = notes-last is (leb-false (2 ^ 63) found h) (eqb-true _ _ l) (settled-in ticket found Viewing is ∙ rw (h, l))
+  viewing-outcome is false false h l = notes-one is (leb-false (2 ^ 63) found h) (eqb-false _ _ l) (settled-in ticket found Viewing is ∙ rw (h, l))
+
+  viewed-outcome : ticket .phase ≡ Viewed → (last : Bool) → eqb (ticket .done + 1) (ticket .claimed) ≡ last → Outcome ticket found
+  viewed-outcome is true l = view-returns-last is (eqb-true _ _ l) (settled-in ticket found Viewed is ∙ rw l)
+  viewed-outcome is false l = view-returns-one is (eqb-false _ _ l) (settled-in ticket found Viewed is ∙ rw l)
+
   outcome-in : (phase : Phase) → ticket .phase ≡ phase → hasTicket phase ≡ true → Outcome ticket found
   outcome-in NoTicket is stands = absurd (false≢true stands)
   outcome-in Claiming is stands = claiming-outcome is _ _ _ _ refl refl refl refl
   outcome-in Putting is stands = putting-outcome is _ refl
   outcome-in GivingBack is stands = giving-outcome is _ refl
+  outcome-in Viewing is stands = viewing-outcome is _ _ refl refl
+  outcome-in Viewed is stands = viewed-outcome is _ refl
 
   pub outcome : hasTicket (ticket .phase) ≡ true → Outcome ticket found
   outcome stands = outcome-in (ticket .phase) refl stands

@@ -1,31 +1,34 @@
 -- Every step of a standing ticket keeps the invariant, and every put and return finds its mark.
 use Prim.Native.Nat.{ℕ, _+_, _^_, _≤_, _<_}
 use mathlib.Core.Path.{_≡_, refl, sym, ap, subst, _∙_}
-use mathlib.Core.Bool.{Bool, true, false, cond}
+use mathlib.Core.Bool.{Bool, true, false, cond, false≢true}
 use mathlib.Core.Logic.{_≢_, _⊎_, inl, inr}
 use native.Mathlib.Omega.{arith}
 use lib.Dec.{eqb}
 use lib.ListN.{length, set, length-set}
-use borrow.Author.Tests.{eq-eqb, ne-eqb}
+use borrow.Author.Tests.{eq-eqb, ne-eqb, eqb-true, eqb-false, le-leb, lt-leb}
 use Rattle.words.specs.Words.{Words, Swap, markOf, readOf, swapOf}
+use Rattle.words.proofs.AnyValue.{value-expected, mark-unexpected}
 use Rattle.tickets.specs.declared.Phase.{Phase}
-use Rattle.tickets.specs.declared.Phase.the-variants.{Claiming, Putting, GivingBack}
+use Rattle.tickets.specs.declared.Phase.the-variants.{NoTicket, Claiming, Putting, GivingBack, Viewing, Viewed}
 use Rattle.tickets.specs.declared.Ticket.{Ticket}
 use Rattle.tickets.specs.declared.Tickets.{Tickets}
 use Rattle.tickets.specs.declared.StepAnswer.{StepAnswer}
 use Rattle.tickets.specs.declared.StepAnswer.the-variants.{Stale}
-use Rattle.tickets.specs.Tickets.{noTicket, ticketOf, withTicket, targetAt, targetsIn, hasTicket}
-use Rattle.tickets.specs.Steps.{swapTriedIn, swapTried, oneMoreTry, advanced, stepped, settled, stepOf}
+use Rattle.tickets.specs.Tickets.{noTicket, ticketOf, withTicket, targetAt, targetsIn, hasTicket, isView, claims}
+use Rattle.tickets.specs.Steps.{tries, swapTriedIn, swapTried, oneMoreTry, advanced, stepped, noting, settled, stepOf}
 use Rattle.tickets.specs.Targets.{AllMatch, PutInto}
-use Rattle.tickets.specs.Invariant.{withSlot, plainValue, FitTicket, Invariant, Leaves, StepKept, claimed-one, claimed-last, waiting, found-other, stale-at-once, put-one, put-last, returned-one, returned-last, StepKeeps, MarkFound, LengthKept}
+use Rattle.tickets.specs.Invariant.{withSlot, plainValue, FitTicket, Invariant, Leaves, StepKept, claimed-one, claimed-last, waiting, found-other, stale-at-once, put-one, put-last, returned-one, returned-last, viewed-one, viewed-last, view-waiting, view-returned-one, view-returned-last, StepKeeps, MarkFound, LengthKept}
 use Rattle.tickets.proofs.Slots.{table-slots}
-use Rattle.tickets.proofs.TargetLists.{length-targets, target-listed, claimable-at, match-at, at-match, put-at}
-use Rattle.tickets.proofs.Keeping.{claimTarget, doneTarget, claimedWords, doneWords, claiming-counts, putting-counts, giving-counts, standing-fit, fit-claiming, fit-putting, fit-giving, nothing-held, holds-at, same-held, plain-quoted, claim-keeps, done-marked, done-keeps, last-keeps}
-use Rattle.tickets.proofs.Outcomes.{Outcome, claims-one, claims-last, waits, differs-later, differs-first, puts-one, puts-last, returns-one, returns-last, outcome}
+use Rattle.tickets.proofs.TargetLists.{length-targets, target-listed, claimable-at, at-match, put-at}
+use Rattle.tickets.proofs.Changing.{HeldAlike}
+use Rattle.tickets.proofs.Keeping.{claimTarget, doneTarget, claimedWords, doneWords, claims-counts, done-counts, standing-fit, claims-stand, claims-quoted, fit-claiming, fit-putting, fit-giving, fit-viewed, fit-done, nothing-held, same-held, holds-on, plain-quoted, claim-keeps, claim-keeps-plain, done-marked, done-keeps, last-keeps}
+use Rattle.tickets.proofs.Noting.{noted-held, noted-quoted, noted-fit}
+use Rattle.tickets.proofs.Outcomes.{Outcome, claims-one, claims-last, waits, differs-later, differs-first, puts-one, puts-last, returns-one, returns-last, notes-one, notes-last, view-waits, view-returns-one, view-returns-last, outcome}
 
 -- The swap of a ticket in a phase.
 abbrev swapIn : Phase → Words → Ticket → ℕ → Swap
-swapIn phase words ticket team = let tried = swapTriedIn phase ticket team in swapOf words (tried .word) (tried .expected) (tried .desired)
+swapIn phase words ticket team = let tried = swapTriedIn phase words ticket team in swapOf words (tried .word) (tried .expected) (tried .desired)
 
 words-in : (phase : Phase) (words : Words) (ticket : Ticket) (team : ℕ) → ticket .phase ≡ phase → stepOf words ticket team .1 ≡ swapIn phase words ticket team .words
 unfolding stepOf swapTried
@@ -33,7 +36,7 @@ words-in phase words ticket team is = ap (λ phase. swapIn phase words ticket te
 
 -- What a step finds.
 abbrev pub foundBy : Words → Ticket → ℕ → ℕ
-foundBy words ticket team = readOf words (swapTried ticket team .word)
+foundBy words ticket team = readOf words (swapTried words ticket team .word)
 
 found-in : (phase : Phase) (words : Words) (ticket : Ticket) (team : ℕ) → ticket .phase ≡ phase → foundBy words ticket team ≡ swapIn phase words ticket team .found
 unfolding swapTried
@@ -51,11 +54,21 @@ swap-stores words at expected desired same = rw (eq-eqb (readOf words at) expect
 swap-passes : (words : Words) (at expected desired : ℕ) → readOf words at ≢ expected → swapOf words at expected desired .words ≡ words
 swap-passes words at expected desired differs = rw (ne-eqb (readOf words at) expected differs)
 
+-- A ticket that claims no more finds its mark and stores the plain value.
+tried-done : (phase : Phase) (words : Words) (ticket : Ticket) (team : ℕ) → hasTicket phase ≡ true → claims phase ≡ false
+    → swapTriedIn phase words ticket team ≡ tries (doneTarget ticket .word) (markOf team) (plainValue phase (doneTarget ticket))
+tried-done NoTicket words ticket team stands over = absurd (false≢true stands)
+tried-done Claiming words ticket team stands over = absurd (false≢true (sym over))
+tried-done Putting words ticket team stands over = refl
+tried-done GivingBack words ticket team stands over = refl
+tried-done Viewing words ticket team stands over = absurd (false≢true (sym over))
+tried-done Viewed words ticket team stands over = refl
+
 pub length-kept : LengthKept
 unfolding stepOf
-length-kept words ticket team = either (eqb (foundBy words ticket team) (swapTried ticket team .expected))
+length-kept words ticket team = either (eqb (foundBy words ticket team) (swapTried words ticket team .expected))
   where
-    either : (same : Bool) → length (cond same (set words (swapTried ticket team .word) (swapTried ticket team .desired)) words) ≡ length words
+    either : (same : Bool) → length (cond same (set words (swapTried words ticket team .word) (swapTried words ticket team .desired)) words) ≡ length words
     either true = length-set words _ _
     either false = refl
 
@@ -72,8 +85,14 @@ module _ (words : Words) (tickets : ℕ → Ticket) (plain : ℕ → ℕ) (team 
   }
 
   module _ (fit : FitTicket (length words) (tickets team)) where
-    -- A claiming ticket's step, where the word is as quoted.
+    -- Claiming, the word as quoted.
     module _ (claiming : tickets team .phase ≡ Claiming) (same : foundBy words (tickets team) team ≡ claimTarget (tickets team) .quoted) where
+      claims-here : claims (tickets team .phase) ≡ true
+      claims-here = ap claims claiming
+
+      itself : HeldAlike (tickets team) (tickets team)
+      itself = record { held-before = λ word value holds. holds; held-after = λ word value holds. (value, holds) }
+
       quoted : readOf words (claimTarget (tickets team) .word) ≡ claimTarget (tickets team) .quoted
       quoted = sym (found-in Claiming words (tickets team) team claiming) ∙ same
 
@@ -83,19 +102,18 @@ module _ (words : Words) (tickets : ℕ → Ticket) (plain : ℕ → ℕ) (team 
       claims-more : tickets team .claimed + 1 < tickets team .n
           → Invariant (claimedWords words (tickets team) team) (withSlot tickets team (advanced (tickets team) Claiming (tickets team .claimed + 1) (tickets team .done))) plain
       claims-more more =
-          claim-keeps i team fit claiming quoted Claiming (tickets team .done) plain refl (fit .none-done claiming)
-          (fit-claiming (length words) (tickets team) (fit .claimable) (tickets team .claimed + 1) (tickets team .done) more (fit .none-done claiming))
-          (plain-quoted i team fit claiming quoted) (λ word. inr refl)
+          claim-keeps-plain i team (tickets team) fit claims-here itself quoted Claiming (tickets team .done) refl (fit .none-done claims-here) (λ k. refl)
+          (fit-claiming (length words) (tickets team) fit (tickets team .claimed + 1) (tickets team .done) Claiming refl (λ view. absurd (false≢true view)) more (fit .none-done claims-here))
 
       module _ (last : tickets team .claimed + 1 ≡ tickets team .n) where
         all-match : AllMatch (targetsIn (tickets team)) plain
-        all-match = at-match (tickets team) plain (λ k below. plain-quoted i team fit claiming quoted k (omega arith))
+        all-match = at-match (tickets team) plain (λ k below. plain-quoted i team (tickets team) fit claims-here itself quoted k (omega arith))
 
         claims-all : (after : ℕ → ℕ) → PutInto (targetsIn (tickets team)) plain after
             → Invariant (claimedWords words (tickets team) team) (withSlot tickets team (advanced (tickets team) Putting (tickets team .claimed + 1) 0)) after
         claims-all after put =
-            claim-keeps i team fit claiming quoted Putting 0 after refl refl
-            (fit-putting (length words) (tickets team) (fit .claimable) (tickets team .claimed + 1) 0 (omega arith) last)
+            claim-keeps i team (tickets team) fit claims-here itself quoted Putting 0 after refl refl
+            (fit-putting (length words) (tickets team) fit (tickets team .claimed + 1) 0 (omega arith) last)
             (λ k below. put-at (tickets team) plain after put k (omega arith)) elsewhere
           where
             elsewhere : (word : ℕ) → ((k : ℕ) × (k < tickets team .claimed + 1) × (targetAt (tickets team) k .word ≡ word)) ⊎ (after word ≡ plain word)
@@ -106,99 +124,157 @@ module _ (words : Words) (tickets : ℕ → Ticket) (plain : ℕ → ℕ) (team 
               | inr same ↦ inr same
             ]
 
-    -- A claiming ticket's step, where it is not: the words stay.
+    -- A view found a value: it is noted, and then claimed as quoted.
+    module _ (viewing : tickets team .phase ≡ Viewing) (small : foundBy words (tickets team) team < 2 ^ 63) where
+      abbrev noted : Ticket
+      noted = noting (tickets team) (foundBy words (tickets team) team)
+
+      claims-view : claims (tickets team .phase) ≡ true
+      claims-view = ap claims viewing
+
+      is-view : isView (tickets team .phase) ≡ true
+      is-view = ap isView viewing
+
+      held-alike : HeldAlike (tickets team) noted
+      held-alike = noted-held (tickets team) (foundBy words (tickets team) team)
+
+      found : readOf words (claimTarget (tickets team) .word) ≡ foundBy words (tickets team) team
+      found = sym (found-in Viewing words (tickets team) team viewing)
+
+      fit-noted : FitTicket (length words) noted
+      fit-noted = noted-fit (tickets team) (foundBy words (tickets team) team) fit claims-view is-view small
+
+      quoted-now : readOf words (claimTarget noted .word) ≡ claimTarget noted .quoted
+      quoted-now = found ∙ sym (noted-quoted (tickets team) (foundBy words (tickets team) team) fit claims-view is-view)
+
+      words-viewed : stepOf words (tickets team) team .1 ≡ claimedWords words noted team
+      words-viewed =
+          let below : readOf words (claimTarget (tickets team) .word) < 2 ^ 63 = omega (arith, found) in
+          words-in Viewing words (tickets team) team viewing
+          ∙ swap-stores words _ _ (markOf team) (eqb-true _ _ (value-expected (readOf words (claimTarget (tickets team) .word)) (lt-leb (2 ^ 63) _ below)))
+
+      value-plain : foundBy words (tickets team) team ≡ plain (claimTarget (tickets team) .word)
+      value-plain =
+          let inside = claimable-at (length words) (tickets team) (fit .claimable) .inside (tickets team .claimed) (claims-counts (tickets team) fit claims-view) in
+          sym found ∙ i .free _ inside (omega (arith, found))
+
+      views-more : tickets team .claimed + 1 < tickets team .n
+          → Invariant (claimedWords words noted team) (withSlot tickets team (advanced noted Viewing (tickets team .claimed + 1) (tickets team .done))) plain
+      views-more more =
+          claim-keeps-plain i team noted fit-noted claims-view held-alike quoted-now Viewing (tickets team .done) refl (fit .none-done claims-view) (λ k. refl)
+          (fit-claiming (length words) noted fit-noted (tickets team .claimed + 1) (tickets team .done) Viewing refl (λ view. is-view) more (fit .none-done claims-view))
+
+      module _ (last : tickets team .claimed + 1 ≡ tickets team .n) where
+        all-noted : AllMatch (targetsIn noted) plain
+        all-noted = at-match noted plain (λ k below. plain-quoted i team noted fit-noted claims-view held-alike quoted-now k (omega arith))
+
+        views-all : Invariant (claimedWords words noted team) (withSlot tickets team (advanced noted Viewed (tickets team .claimed + 1) 0)) plain
+        views-all =
+            claim-keeps-plain i team noted fit-noted claims-view held-alike quoted-now Viewed 0 refl refl (λ k. refl)
+            (fit-viewed (length words) noted fit-noted (tickets team .claimed + 1) 0 is-view (omega arith) last)
+
+    -- An edit or a view that claims, where nothing is stored: the words stay.
+    module _ (claiming : claims (tickets team .phase) ≡ true) where
+      inside : claimTarget (tickets team) .word < length words
+      inside = claimable-at (length words) (tickets team) (fit .claimable) .inside (tickets team .claimed) (claims-counts (tickets team) fit claiming)
+
+      more-claims : tickets team .claimed + 1 ≢ tickets team .n → tickets team .claimed + 1 < tickets team .n
+      more-claims more = omega (arith, claims-counts (tickets team) fit claiming)
+
+      waits-keeps : (phase : Phase) → tickets team .phase ≡ phase → Invariant words (withSlot tickets team (advanced (tickets team) phase (tickets team .claimed) (tickets team .done))) plain
+      waits-keeps phase is =
+          let claims-now : claims phase ≡ true = ap claims (sym is) ∙ claiming in
+          holds-on i team phase (tickets team .done) claiming (fit .none-done claiming) (fit .none-done claiming) (claims-stand phase claims-now) (λ k. claims-quoted phase _ claims-now)
+          (fit-claiming (length words) (tickets team) fit (tickets team .claimed) (tickets team .done) phase claims-now (λ view. ap isView is ∙ view) (claims-counts (tickets team) fit claiming) (fit .none-done claiming))
+
+      gives-keeps : tickets team .claimed ≢ 0 → Invariant words (withSlot tickets team (advanced (tickets team) GivingBack (tickets team .claimed) 0)) plain
+      gives-keeps some = holds-on i team GivingBack 0 claiming (fit .none-done claiming) refl refl (λ k. refl)
+          (fit-giving (length words) (tickets team) fit (tickets team .claimed) 0 (omega arith) (claims-counts (tickets team) fit claiming))
+
+      ends-keeps : tickets team .claimed ≡ 0 → Invariant words (withSlot tickets team noTicket) plain
+      ends-keeps none = same-held i team noTicket (inl refl)
+          record { held-before = λ word value holds. nothing-held holds; held-after = λ word value holds. absurd (omega (arith, holds .claimed)) }
+
+    -- Claiming, the word not as quoted.
     module _ (claiming : tickets team .phase ≡ Claiming) (differs : foundBy words (tickets team) team ≢ claimTarget (tickets team) .quoted) where
       words-same : stepOf words (tickets team) team .1 ≡ words
       words-same = words-in Claiming words (tickets team) team claiming
           ∙ swap-passes words _ _ (markOf team) (λ same. differs (found-in Claiming words (tickets team) team claiming ∙ same))
 
-      inside : claimTarget (tickets team) .word < length words
-      inside = claimable-at (length words) (tickets team) (fit .claimable) .inside (tickets team .claimed) (claiming-counts (tickets team) fit claiming)
-
       not-plain : foundBy words (tickets team) team < 2 ^ 63 → plain (claimTarget (tickets team) .word) ≡ claimTarget (tickets team) .quoted → ⊥
       not-plain small same =
           let found = found-in Claiming words (tickets team) team claiming in
-          differs (found ∙ i .free _ inside (omega arith) ∙ same)
+          differs (found ∙ i .free _ (inside (ap claims claiming)) (omega arith) ∙ same)
 
-      -- It holds what it held, in a phase in which the plain values are the quoted ones.
-      holds-on : (phase : Phase) (done : ℕ) → done ≡ 0 → hasTicket phase ≡ true → ((k : ℕ) → plainValue phase (targetAt (tickets team) k) ≡ targetAt (tickets team) k .quoted)
-          → FitTicket (length words) (advanced (tickets team) phase (tickets team .claimed) done)
-          → Invariant words (withSlot tickets team (advanced (tickets team) phase (tickets team .claimed) done)) plain
-      holds-on phase done none-done stands values fit-now = same-held i team _ (inr fit-now)
-          (λ word value holds. record {
-            stands = ap hasTicket claiming;
-            at = holds .at;
-            not-done = omega (arith, fit .none-done claiming);
-            claimed = holds .claimed;
-            its-word = holds .its-word;
-            its-value = ap (λ phase. plainValue phase (targetAt (tickets team) (holds .at))) claiming ∙ sym (values (holds .at)) ∙ holds .its-value;
-          })
-          (λ word value holds. holds-at (tickets team) phase (tickets team .claimed) done (holds .at) word stands (omega arith) (holds .claimed) (holds .its-word))
-
-      waits-keeps : Invariant words (withSlot tickets team (advanced (tickets team) Claiming (tickets team .claimed) (tickets team .done))) plain
-      waits-keeps = holds-on Claiming (tickets team .done) (fit .none-done claiming) refl (λ k. refl)
-          (fit-claiming (length words) (tickets team) (fit .claimable) (tickets team .claimed) (tickets team .done) (claiming-counts (tickets team) fit claiming) (fit .none-done claiming))
-
-      gives-keeps : tickets team .claimed ≢ 0 → Invariant words (withSlot tickets team (advanced (tickets team) GivingBack (tickets team .claimed) 0)) plain
-      gives-keeps some = holds-on GivingBack 0 refl refl (λ k. refl)
-          (fit-giving (length words) (tickets team) (fit .claimable) (tickets team .claimed) 0 (omega arith) (claiming-counts (tickets team) fit claiming))
-
-      ends-keeps : tickets team .claimed ≡ 0 → Invariant words (withSlot tickets team noTicket) plain
-      ends-keeps none = same-held i team noTicket (inl refl) (λ word value holds. nothing-held holds) (λ word value holds. absurd (omega (arith, holds .claimed)))
+    -- A view that found a mark.
+    words-waited : tickets team .phase ≡ Viewing → 2 ^ 63 ≤ readOf words (claimTarget (tickets team) .word) → stepOf words (tickets team) team .1 ≡ words
+    words-waited viewing large = words-in Viewing words (tickets team) team viewing
+        ∙ swap-passes words _ _ (markOf team) (eqb-false _ _ (mark-unexpected (readOf words (claimTarget (tickets team) .word)) (le-leb (2 ^ 63) _ large)))
 
     -- A ticket that is putting or giving back: the word is found marked, and gets its plain value.
-    module _ (phase : Phase) (is : tickets team .phase ≡ phase) (stands : hasTicket phase ≡ true)
-        (below : tickets team .done < tickets team .claimed) (most : tickets team .claimed ≤ tickets team .n)
-        (swap-is : swapIn phase words (tickets team) team ≡ swapOf words (doneTarget (tickets team) .word) (markOf team) (plainValue phase (doneTarget (tickets team)))) where
+    module _ (phase : Phase) (is : tickets team .phase ≡ phase) (stands : hasTicket phase ≡ true) (over : claims phase ≡ false) where
+      standing : hasTicket (tickets team .phase) ≡ true
+      standing = ap hasTicket is ∙ stands
+
+      counted : (tickets team .done < tickets team .claimed) × (tickets team .claimed ≤ tickets team .n)
+      counted = done-counts (tickets team) fit standing (ap claims is ∙ over)
+
+      finds-mark : readOf words (doneTarget (tickets team) .word) ≡ markOf team
+      finds-mark = done-marked i team fit standing (counted .0) (counted .1)
+
       words-done : stepOf words (tickets team) team .1 ≡ doneWords words (tickets team)
-      words-done = words-in phase words (tickets team) team is ∙ ap (λ swap. swap .words) swap-is
-          ∙ swap-stores words _ (markOf team) _ (done-marked i team fit (ap hasTicket is ∙ stands) below most)
+      words-done = words-in phase words (tickets team) team is
+          ∙ ap (λ tried. swapOf words (tried .word) (tried .expected) (tried .desired) .words) (tried-done phase words (tickets team) team stands over)
+          ∙ swap-stores words _ (markOf team) _ finds-mark
           ∙ ap (λ phase. set words (doneTarget (tickets team) .word) (plainValue phase (doneTarget (tickets team)))) (sym is)
 
-      one-done : FitTicket (length words) (advanced (tickets team) phase (tickets team .claimed) (tickets team .done + 1))
-          → Invariant (doneWords words (tickets team)) (withSlot tickets team (advanced (tickets team) phase (tickets team .claimed) (tickets team .done + 1))) plain
-      one-done fit-now =
-          subst (λ phase. FitTicket (length words) (advanced (tickets team) phase (tickets team .claimed) (tickets team .done + 1))
-          → Invariant (doneWords words (tickets team)) (withSlot tickets team (advanced (tickets team) phase (tickets team .claimed) (tickets team .done + 1))) plain) is
-          (done-keeps i team fit (ap hasTicket is ∙ stands) below most) fit-now
+      more-done : tickets team .done + 1 ≢ tickets team .claimed → tickets team .done + 1 < tickets team .claimed
+      more-done more = omega (arith, counted .0)
 
-      all-done : tickets team .done + 1 ≡ tickets team .claimed → Invariant (doneWords words (tickets team)) (withSlot tickets team noTicket) plain
-      all-done = last-keeps i team fit (ap hasTicket is ∙ stands) below most
+      -- There is another, or it was the last.
+      one-done : {answer : StepAnswer} → tickets team .done + 1 < tickets team .claimed
+          → settled (tickets team) (foundBy words (tickets team) team) ≡ stepped (advanced (tickets team) phase (tickets team .claimed) (tickets team .done + 1)) answer
+          → Leaves words tickets team plain (advanced (tickets team) phase (tickets team .claimed) (tickets team .done + 1)) answer
+      one-done more settles = leaves plain _ _ _ settles words-done
+          (subst (λ phase. Invariant (doneWords words (tickets team)) (withSlot tickets team (advanced (tickets team) phase (tickets team .claimed) (tickets team .done + 1))) plain) is
+          (done-keeps i team fit standing (counted .0) (counted .1) (fit-done (tickets team) fit (ap claims is ∙ over) more)))
+
+      all-done : {answer : StepAnswer} → tickets team .done + 1 ≡ tickets team .claimed
+          → settled (tickets team) (foundBy words (tickets team) team) ≡ stepped noTicket answer
+          → Leaves words tickets team plain noTicket answer
+      all-done last settles = leaves plain _ _ _ settles words-done (last-keeps i team fit standing (counted .0) (counted .1) last)
 
     kept-by : Outcome (tickets team) (foundBy words (tickets team) team) → StepKept words tickets plain team (tickets team)
     kept-by (claims-one claiming same more settles) =
-        let more-below : tickets team .claimed + 1 < tickets team .n = omega (arith, claiming-counts (tickets team) fit claiming) in
+        let more-below = more-claims (ap claims claiming) more in
         claimed-one claiming more-below (leaves plain _ _ _ settles (words-claimed claiming same) (claims-more claiming same more-below))
     kept-by (claims-last claiming same last settles) =
         claimed-last claiming last (all-match claiming same last) (λ after put. leaves after _ _ _ settles (words-claimed claiming same) (claims-all claiming same last after put))
     kept-by (waits claiming differs large settles) =
-        waiting claiming (i .owned _ (inside claiming differs) (omega (arith, found-in Claiming words (tickets team) team claiming)))
-        (leaves plain _ _ _ settles (words-same claiming differs) (waits-keeps claiming differs))
+        waiting claiming (i .owned _ (inside (ap claims claiming)) (omega (arith, found-in Claiming words (tickets team) team claiming)))
+        (leaves plain _ _ _ settles (words-same claiming differs) (waits-keeps (ap claims claiming) Claiming claiming))
     kept-by (differs-later claiming differs small some settles) =
-        found-other claiming (omega arith) (not-plain claiming differs small) (leaves plain _ _ _ settles (words-same claiming differs) (gives-keeps claiming differs some))
+        found-other claiming (omega arith) (not-plain claiming differs small) (leaves plain _ _ _ settles (words-same claiming differs) (gives-keeps (ap claims claiming) some))
     kept-by (differs-first claiming differs small none settles) =
         stale-at-once claiming none (not-plain claiming differs small)
-        (leaves plain _ _ _ (settles ∙ ap (λ k. stepped noTicket (Stale (targetAt (tickets team) k .word) (oneMoreTry (tickets team .tries)))) none) (words-same claiming differs) (ends-keeps claiming differs none))
+        (leaves plain _ _ _ (settles ∙ ap (λ k. stepped noTicket (Stale (targetAt (tickets team) k .word) (oneMoreTry (tickets team .tries)))) none) (words-same claiming differs) (ends-keeps (ap claims claiming) none))
     kept-by (puts-one putting more settles) =
-        let below = putting-counts (tickets team) fit putting in
         let all = fit .all-claimed putting in
-        let more-below : tickets team .done + 1 < tickets team .n = omega arith in
-        put-one putting more-below
-        (leaves plain _ _ _ settles (words-done Putting putting refl (omega arith) (omega arith) refl) (one-done Putting putting refl (omega arith) (omega arith) refl
-        (fit-putting (length words) (tickets team) (fit .claimable) (tickets team .claimed) (tickets team .done + 1) more-below all)))
-    kept-by (puts-last putting last settles) =
-        let below = putting-counts (tickets team) fit putting in
-        let all = fit .all-claimed putting in
-        put-last putting last (leaves plain _ _ _ settles (words-done Putting putting refl (omega arith) (omega arith) refl) (all-done Putting putting refl (omega arith) (omega arith) refl (omega arith)))
-    kept-by (returns-one giving more settles) =
-        let (below, most) = giving-counts (tickets team) fit giving in
-        let more-below : tickets team .done + 1 < tickets team .claimed = omega arith in
-        returned-one giving more-below
-        (leaves plain _ _ _ settles (words-done GivingBack giving refl below (omega arith) refl) (one-done GivingBack giving refl below (omega arith) refl
-        (fit-giving (length words) (tickets team) (fit .claimable) (tickets team .claimed) (tickets team .done + 1) more-below most)))
-    kept-by (returns-last giving last settles) =
-        let (below, most) = giving-counts (tickets team) fit giving in
-        returned-last giving last (leaves plain _ _ _ settles (words-done GivingBack giving refl below (omega arith) refl) (all-done GivingBack giving refl below (omega arith) refl last))
+        let more-below = more-done Putting putting refl refl (λ same. more (same ∙ all)) in
+        put-one putting (omega arith) (one-done Putting putting refl refl more-below settles)
+    kept-by (puts-last putting last settles) = put-last putting last (all-done Putting putting refl refl (last ∙ sym (fit .all-claimed putting)) settles)
+    kept-by (returns-one giving more settles) = let more-below = more-done GivingBack giving refl refl more in returned-one giving more-below (one-done GivingBack giving refl refl more-below settles)
+    kept-by (returns-last giving last settles) = returned-last giving last (all-done GivingBack giving refl refl last settles)
+    kept-by (notes-one viewing small more settles) =
+        let more-below = more-claims (ap claims viewing) more in
+        viewed-one viewing more-below _ (value-plain viewing small) (leaves plain _ _ _ settles (words-viewed viewing small) (views-more viewing small more-below))
+    kept-by (notes-last viewing small last settles) =
+        viewed-last viewing last _ (all-noted viewing small last) (leaves plain _ _ _ settles (words-viewed viewing small) (views-all viewing small last))
+    kept-by (view-waits viewing large settles) =
+        let mark : 2 ^ 63 ≤ readOf words (claimTarget (tickets team) .word) = omega (arith, found-in Viewing words (tickets team) team viewing) in
+        view-waiting viewing (i .owned _ (inside (ap claims viewing)) mark) (leaves plain _ _ _ settles (words-waited viewing mark) (waits-keeps (ap claims viewing) Viewing viewing))
+    kept-by (view-returns-one viewed more settles) = let more-below = more-done Viewed viewed refl refl more in view-returned-one viewed more-below (one-done Viewed viewed refl refl more-below settles)
+    kept-by (view-returns-last viewed last settles) = view-returned-last viewed last (all-done Viewed viewed refl refl last settles)
 
 pub step-keeps : StepKeeps
 step-keeps words tickets plain team i stands =
@@ -215,12 +291,7 @@ table-keeps words table team {plain} slot left =
 
 pub mark-found : MarkFound
 unfolding swapTried
-mark-found words tickets plain team i (inl putting) =
-    let fit = standing-fit (length words) (tickets team) (i .fit team) (ap hasTicket putting) in
-    let below = putting-counts (tickets team) fit putting in
-    let all = fit .all-claimed putting in
-    subst (λ phase. swapIn phase words (tickets team) team .found ≡ swapTriedIn phase (tickets team) team .expected) (sym putting) (done-marked i team fit (ap hasTicket putting) (omega arith) (omega arith))
-mark-found words tickets plain team i (inr giving) =
-    let fit = standing-fit (length words) (tickets team) (i .fit team) (ap hasTicket giving) in
-    let (below, most) = giving-counts (tickets team) fit giving in
-    subst (λ phase. swapIn phase words (tickets team) team .found ≡ swapTriedIn phase (tickets team) team .expected) (sym giving) (done-marked i team fit (ap hasTicket giving) below (omega arith))
+mark-found words tickets plain team i stands over =
+    let fit = standing-fit (length words) (tickets team) (i .fit team) stands in
+    subst (λ tried. readOf words (tried .word) ≡ tried .expected) (sym (tried-done (tickets team .phase) words (tickets team) team stands over))
+    (finds-mark words tickets plain team i fit (tickets team .phase) refl stands over)

@@ -1,7 +1,7 @@
 -- A ticket's targets as a list are its targets one by one, and a step leaves them as they are.
-use Prim.Native.Nat.{ℕ, zero, suc, _+_, _^_, _≤_, _<_}
+use Prim.Native.Nat.{ℕ, zero, suc, _+_, _-_, _^_, _≤_, _<_}
 use mathlib.Core.Path.{_≡_, refl, sym, ap, subst, _∙_}
-use mathlib.Core.List.{List}
+use mathlib.Core.List.{List, [], _∷_}
 use native.Mathlib.Omega.{arith}
 use native.Mathlib.Nat.{le-of-suc-le-suc, not-suc-le-zero}
 use lib.ListN.{length}
@@ -22,6 +22,22 @@ in-from : (first many k : ℕ) (ticket : Ticket) → k < many → targetIn (targ
 in-from first zero k ticket below = absurd (not-suc-le-zero below)
 in-from first (suc many) zero ticket below = ap (targetAt ticket) (omega arith)
 in-from first (suc many) (suc k) ticket below = in-from (first + 1) many k ticket (le-of-suc-le-suc below) ∙ ap (targetAt ticket) (omega arith)
+
+-- The targets from k on, with the next of them in front; or none left.
+pub all-targets : (ticket : Ticket) → targetsIn ticket ≡ targetsFrom 0 (ticket .n - 0) ticket
+all-targets ticket =
+    let whole : ticket .n ≡ ticket .n - 0 = omega arith in
+    ap (λ (m : ℕ). targetsFrom 0 m ticket) whole
+
+pub next-target : (ticket : Ticket) (n k : ℕ) → k < n → targetsFrom k (n - k) ticket ≡ targetAt ticket k ∷ targetsFrom (k + 1) (n - (k + 1)) ticket
+next-target ticket n k inside =
+    let one-more : n - k ≡ suc (n - (k + 1)) = omega arith in
+    ap (λ (m : ℕ). targetsFrom k m ticket) one-more
+
+pub no-target-left : (ticket : Ticket) (n k : ℕ) → n ≤ k → targetsFrom k (n - k) ticket ≡ []
+no-target-left ticket n k none =
+    let zero-left : n - k ≡ 0 = omega arith in
+    ap (λ (m : ℕ). targetsFrom k m ticket) zero-left
 
 pub length-targets : (ticket : Ticket) → length (targetsIn ticket) ≡ ticket .n
 length-targets ticket = length-from 0 (ticket .n) ticket

@@ -8,7 +8,7 @@ use Rattle.tickets.specs.declared.Ticket.{Ticket}
 use Rattle.tickets.specs.declared.Stepped.{Stepped}
 use Rattle.tickets.specs.Steps.{mostTries, oneMoreTry, settled}
 use Rattle.tickets.specs.Invariant.{TriesTold, TriesCounted, TriesStop}
-use Rattle.tickets.proofs.Outcomes.{Outcome, claims-one, claims-last, waits, differs-later, differs-first, puts-one, puts-last, returns-one, returns-last, outcome}
+use Rattle.tickets.proofs.Outcomes.{Outcome, claims-one, claims-last, waits, differs-later, differs-first, puts-one, puts-last, returns-one, returns-last, notes-one, notes-last, view-waits, view-returns-one, view-returns-last, outcome}
 use Rattle.tickets.proofs.Stepping.{foundBy, step-settled}
 
 -- What a step tells, by the ticket and the answer that it leaves.
@@ -25,6 +25,11 @@ told-by ticket found (puts-one putting more settles) = subst (Told ticket) (sym 
 told-by ticket found (puts-last putting last settles) = subst (Told ticket) (sym settles) (refl, refl)
 told-by ticket found (returns-one giving more settles) = subst (Told ticket) (sym settles) (refl, refl)
 told-by ticket found (returns-last giving last settles) = subst (Told ticket) (sym settles) (refl, refl)
+told-by ticket found (notes-one viewing small more settles) = subst (Told ticket) (sym settles) (refl, refl)
+told-by ticket found (notes-last viewing small last settles) = subst (Told ticket) (sym settles) (refl, refl)
+told-by ticket found (view-waits viewing large settles) = subst (Told ticket) (sym settles) (refl, refl)
+told-by ticket found (view-returns-one viewed more settles) = subst (Told ticket) (sym settles) (refl, refl)
+told-by ticket found (view-returns-last viewed last settles) = subst (Told ticket) (sym settles) refl
 
 pub tries-counted : TriesCounted
 tries-counted words ticket team stands =

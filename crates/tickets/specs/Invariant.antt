@@ -2,20 +2,21 @@
 use Prim.Native.Nat.{ℕ, _+_, _^_, _≤_, _<_, min}
 use mathlib.Core.Path.{_≡_}
 use mathlib.Core.Bool.{true, false, cond}
+use mathlib.Core.List.{map}
 use mathlib.Core.Logic.{_⊎_, _↔_}
 use lib.ListN.{length, replicate}
 use lib.Dec.{eqb}
 use Rattle.words.specs.Words.{Words, wordsInBook, markOf, readOf}
 use Rattle.tickets.specs.declared.Target.{Target}
 use Rattle.tickets.specs.declared.Phase.{Phase}
-use Rattle.tickets.specs.declared.Phase.the-variants.{NoTicket, Claiming, Putting, GivingBack}
+use Rattle.tickets.specs.declared.Phase.the-variants.{NoTicket, Claiming, Putting, GivingBack, Viewing, Viewed}
 use Rattle.tickets.specs.declared.Ticket.{Ticket}
 use Rattle.tickets.specs.declared.StepAnswer.{StepAnswer}
-use Rattle.tickets.specs.declared.StepAnswer.the-variants.{Claimed, Waiting, Found, Put, Returned, Granted, Stale}
+use Rattle.tickets.specs.declared.StepAnswer.the-variants.{Claimed, Waiting, Found, Put, Returned, Granted, Stale, Seen}
 use Rattle.tickets.specs.declared.LookAnswer.{LookAnswer}
 use Rattle.tickets.specs.declared.LookAnswer.the-variants.{Held, Value}
-use Rattle.tickets.specs.Tickets.{noTicket, targetAt, targetsIn, hasTicket, countsWellMade, wellMade}
-use Rattle.tickets.specs.Steps.{swapTried, mostTries, oneMoreTry, advanced, stepped, stepOf, lookOf}
+use Rattle.tickets.specs.Tickets.{noTicket, targetAt, targetsIn, wordsIn, namedIn, hasTicket, isView, claims, countsWellMade, namesWellMade, wellMade}
+use Rattle.tickets.specs.Steps.{swapTried, mostTries, oneMoreTry, advanced, stepped, noting, valuesNamed, valuesSeen, stepOf, lookOf}
 use Rattle.tickets.specs.Targets.{Claimable, AllMatch, PutInto}
 
 -- Tickets are given as a function from teams to slots. This is it with another ticket in one team's slot.
@@ -28,6 +29,8 @@ plainValue NoTicket target = target .quoted
 plainValue Claiming target = target .quoted
 plainValue Putting target = target .new
 plainValue GivingBack target = target .quoted
+plainValue Viewing target = target .quoted
+plainValue Viewed target = target .quoted
 
 -- A ticket holds a word, whose plain value is this: the word of a target that is claimed and not done, "from Claimed k until Put k, Returned k".
 pub record Holds (ticket : Ticket) (word value : ℕ) : Type 0 where
@@ -44,12 +47,14 @@ pub record Holder (tickets : ℕ → Ticket) (word : ℕ) : Type 0 where
   pub value : ℕ
   pub holds : Holds (tickets team) word value
 
--- A standing ticket that is fit for a book of so many words: its targets can be claimed, its counts are those of its phase, nothing is done while it is claiming and all is claimed while it is putting.
+-- A standing ticket that is fit for a book of so many words: its targets can be claimed, its counts are those of its phase, nothing is done while it claims, all is claimed while it is putting, a view's named words are its targets, and it has room for their values.
 pub record FitTicket (size : ℕ) (ticket : Ticket) : Type 0 where
   pub claimable : Claimable size (targetsIn ticket)
   pub counts : countsWellMade (ticket .phase) (ticket .n) (ticket .claimed) (ticket .done) ≡ true
-  pub none-done : ticket .phase ≡ Claiming → ticket .done ≡ 0
+  pub none-done : claims (ticket .phase) ≡ true → ticket .done ≡ 0
   pub all-claimed : ticket .phase ≡ Putting → ticket .claimed ≡ ticket .n
+  pub names : isView (ticket .phase) ≡ true → namesWellMade (namedIn ticket) (wordsIn ticket) ≡ true
+  pub room : isView (ticket .phase) ≡ true → ticket .n ≤ length (ticket .quoted)
 
 -- Which targets, counted from 0, a ticket holds, phase by phase.
 abbrev pub HeldTarget : Phase → Ticket → ℕ → Type 0
@@ -57,6 +62,8 @@ HeldTarget NoTicket ticket k = ⊥
 HeldTarget Claiming ticket k = k < ticket .claimed
 HeldTarget Putting ticket k = (ticket .done ≤ k) × (k < ticket .n)
 HeldTarget GivingBack ticket k = (ticket .done ≤ k) × (k < ticket .claimed)
+HeldTarget Viewing ticket k = k < ticket .claimed
+HeldTarget Viewed ticket k = (ticket .done ≤ k) × (k < ticket .claimed)
 
 -- Statement: of a fit ticket these are the targets that are claimed and not done.
 abbrev pub HeldByPhase : Type 0
@@ -104,12 +111,14 @@ HoldsAtStart = (size : ℕ) (tickets : ℕ → Ticket) (plain : ℕ → ℕ)
     → ((word : ℕ) → word < size → plain word ≡ 0)
     → Invariant (replicate size 0) tickets plain
 
--- A ticket as an edit opens it: claiming targets that can be claimed, nothing claimed and nothing done.
+-- A ticket as an edit or a view opens it: it claims targets that can be claimed, nothing claimed and nothing done.
 pub record OpenedTicket (size : ℕ) (ticket : Ticket) : Type 0 where
-  pub claiming : ticket .phase ≡ Claiming
+  pub opens : claims (ticket .phase) ≡ true
   pub none-claimed : ticket .claimed ≡ 0
   pub none-done : ticket .done ≡ 0
   pub claimable : Claimable size (targetsIn ticket)
+  pub names : isView (ticket .phase) ≡ true → namesWellMade (namedIn ticket) (wordsIn ticket) ≡ true
+  pub room : isView (ticket .phase) ≡ true → ticket .n ≤ length (ticket .quoted)
 
 -- Statement: opening a ticket for a team that has none keeps it, with the same words and the same plain words.
 abbrev pub OpeningKeeps : Type 0
@@ -174,6 +183,33 @@ pub data StepKept (words : Words) (tickets : ℕ → Ticket) (plain : ℕ → �
       → ticket .done + 1 ≡ ticket .claimed
       → Leaves words tickets team plain noTicket (Stale (targetAt ticket (ticket .claimed) .word) (oneMoreTry (ticket .tries)))
       → StepKept words tickets plain team ticket
+  -- A view claimed, and not its last word: it noted the plain word.
+  viewed-one : ticket .phase ≡ Viewing
+      → ticket .claimed + 1 < ticket .n
+      → (value : ℕ) → value ≡ plain (targetAt ticket (ticket .claimed) .word)
+      → Leaves words tickets team plain (advanced (noting ticket value) Viewing (ticket .claimed + 1) (ticket .done)) (Claimed (ticket .claimed + 1))
+      → StepKept words tickets plain team ticket
+  -- A view's Claimed n: all values noted are the plain words.
+  viewed-last : ticket .phase ≡ Viewing
+      → ticket .claimed + 1 ≡ ticket .n
+      → (value : ℕ) → AllMatch (targetsIn (noting ticket value)) plain
+      → Leaves words tickets team plain (advanced (noting ticket value) Viewed (ticket .claimed + 1) 0) (Claimed (ticket .claimed + 1))
+      → StepKept words tickets plain team ticket
+  -- A view is Waiting: the word is some team's.
+  view-waiting : ticket .phase ≡ Viewing
+      → Holder tickets (targetAt ticket (ticket .claimed) .word)
+      → Leaves words tickets team plain (advanced ticket Viewing (ticket .claimed) (ticket .done)) (Waiting (targetAt ticket (ticket .claimed) .word))
+      → StepKept words tickets plain team ticket
+  -- A view Returned, and not the last word.
+  view-returned-one : ticket .phase ≡ Viewed
+      → ticket .done + 1 < ticket .claimed
+      → Leaves words tickets team plain (advanced ticket Viewed (ticket .claimed) (ticket .done + 1)) (Returned (ticket .done + 1))
+      → StepKept words tickets plain team ticket
+  -- Seen: the view has given all back.
+  view-returned-last : ticket .phase ≡ Viewed
+      → ticket .done + 1 ≡ ticket .claimed
+      → Leaves words tickets team plain noTicket (Seen (valuesSeen ticket))
+      → StepKept words tickets plain team ticket
 
 -- Statement: every step of a standing ticket does one of these.
 abbrev pub StepKeeps : Type 0
@@ -181,6 +217,14 @@ StepKeeps = (words : Words) (tickets : ℕ → Ticket) (plain : ℕ → ℕ) (te
     → Invariant words tickets plain
     → hasTicket (tickets team .phase) ≡ true
     → StepKept words tickets plain team (tickets team)
+
+-- Statement: where the values that a view noted are plain words, it shows the plain words of the words named, in that order.
+abbrev pub ValuesNamed : Type 0
+ValuesNamed = (size : ℕ) (ticket : Ticket) (plain : ℕ → ℕ)
+    → FitTicket size ticket
+    → isView (ticket .phase) ≡ true
+    → AllMatch (targetsIn ticket) plain
+    → valuesNamed ticket ≡ map plain (namedIn ticket)
 
 -- A value that a look shows is the plain word; a word that it shows as held is some team's.
 abbrev pub LookRight : (ℕ → Ticket) → (ℕ → ℕ) → ℕ → LookAnswer → Type 0
@@ -206,8 +250,9 @@ UnheldPlain = (words : Words) (tickets : ℕ → Ticket) (plain : ℕ → ℕ) (
 abbrev pub MarkFound : Type 0
 MarkFound = (words : Words) (tickets : ℕ → Ticket) (plain : ℕ → ℕ) (team : ℕ)
     → Invariant words tickets plain
-    → (tickets team .phase ≡ Putting) ⊎ (tickets team .phase ≡ GivingBack)
-    → readOf words (swapTried (tickets team) team .word) ≡ swapTried (tickets team) team .expected
+    → hasTicket (tickets team .phase) ≡ true
+    → claims (tickets team .phase) ≡ false
+    → readOf words (swapTried words (tickets team) team .word) ≡ swapTried words (tickets team) team .expected
 
 -- Statement: in a book of 4,096 words every standing ticket is well made.
 abbrev pub FitWellMade : Type 0
@@ -232,6 +277,8 @@ TriesTold tries (Put k) after = (hasTicket (after .phase) ≡ true) × (after .t
 TriesTold tries (Returned k) after = (hasTicket (after .phase) ≡ true) × (after .tries ≡ tries)
 TriesTold tries (Granted told) after = (after ≡ noTicket) × (told ≡ tries)
 TriesTold tries (Stale word told) after = (after ≡ noTicket) × (told ≡ tries)
+-- A view tells no tries.
+TriesTold tries (Seen values) after = after ≡ noTicket
 
 -- Statement: every step counts one try more.
 abbrev pub TriesCounted : Type 0

@@ -1,36 +1,44 @@
 -- "Tickets and steps": one step is one conditional swap; a look is one read.
 use Prim.Native.Nat.{ℕ, _+_, _<_}
 use mathlib.Core.Bool.{Bool, true, false, cond}
+use mathlib.Core.List.{List, [], _∷_, map}
+use lib.ListN.{getD, set}
 use lib.Dec.{eqb, ltb}
-use Rattle.words.specs.Words.{Words, isHeld, markOf, readOf, swapOf}
-use Rattle.tickets.specs.Tickets.{noTicket, targetAt}
+use Rattle.words.specs.Words.{Words, isHeld, markOf, readOf, swapOf, anyValue}
+use Rattle.tickets.specs.Tickets.{noTicket, targetAt, targetsIn, namedIn}
 use Rattle.tickets.specs.declared.Target.{Target}
 use Rattle.tickets.specs.declared.Phase.{Phase}
-use Rattle.tickets.specs.declared.Phase.the-variants.{NoTicket, Claiming, Putting, GivingBack}
+use Rattle.tickets.specs.declared.Phase.the-variants.{NoTicket, Claiming, Putting, GivingBack, Viewing, Viewed}
 use Rattle.tickets.specs.declared.Ticket.{Ticket}
 use Rattle.tickets.specs.declared.SwapTried.{SwapTried}
 use Rattle.tickets.specs.declared.StepAnswer.{StepAnswer}
-use Rattle.tickets.specs.declared.StepAnswer.the-variants.{Claimed, Waiting, Found, Put, Returned, Granted, Stale}
+use Rattle.tickets.specs.declared.StepAnswer.the-variants.{Claimed, Waiting, Found, Put, Returned, Granted, Stale, Seen}
+use Rattle.tickets.specs.declared.EditAnswer.{EditAnswer}
+use Rattle.tickets.specs.declared.EditAnswer.the-variants as Edits
 use Rattle.tickets.specs.declared.LookAnswer.{LookAnswer}
 use Rattle.tickets.specs.declared.LookAnswer.the-variants.{Held, Value}
 use Rattle.tickets.specs.declared.Stepped.{Stepped}
+use Rattle.tickets.specs.declared.Values.{Values}
 
 -- A conditional swap of a word, from an expected to a desired value.
 abbrev pub tries : ℕ → ℕ → ℕ → SwapTried
 tries word expected desired = record { word = word; expected = expected; desired = desired }
 
 -- The swap that a step tries. (A team without a ticket takes no step: its case makes the definition total, with a swap that changes nothing.)
-abbrev pub swapTriedIn : Phase → Ticket → ℕ → SwapTried
+abbrev pub swapTriedIn : Phase → Words → Ticket → ℕ → SwapTried
 -- Claiming, next target: if the word is the quoted value it becomes the team's mark.
-swapTriedIn Claiming ticket team = let next = targetAt ticket (ticket .claimed) in tries (next .word) (next .quoted) (markOf team)
+swapTriedIn Claiming words ticket team = let next = targetAt ticket (ticket .claimed) in tries (next .word) (next .quoted) (markOf team)
 -- Putting: the next target gets its new value if it holds the team's mark and stays if not.
-swapTriedIn Putting ticket team = let next = targetAt ticket (ticket .done) in tries (next .word) (markOf team) (next .new)
+swapTriedIn Putting words ticket team = let next = targetAt ticket (ticket .done) in tries (next .word) (markOf team) (next .new)
 -- Giving back: likewise with the quoted value.
-swapTriedIn GivingBack ticket team = let next = targetAt ticket (ticket .done) in tries (next .word) (markOf team) (next .quoted)
-swapTriedIn NoTicket ticket team = tries 0 0 0
+swapTriedIn GivingBack words ticket team = let next = targetAt ticket (ticket .done) in tries (next .word) (markOf team) (next .quoted)
+-- A view claiming: any value below 2^63 becomes the team's mark; giving back: as an edit.
+swapTriedIn Viewing words ticket team = let next = targetAt ticket (ticket .claimed) in tries (next .word) (anyValue (readOf words (next .word))) (markOf team)
+swapTriedIn Viewed words ticket team = let next = targetAt ticket (ticket .done) in tries (next .word) (markOf team) (next .quoted)
+swapTriedIn NoTicket words ticket team = tries 0 0 0
 
-unfoldable pub swapTried : Ticket → ℕ → SwapTried
-swapTried ticket team = swapTriedIn (ticket .phase) ticket team
+unfoldable pub swapTried : Words → Ticket → ℕ → SwapTried
+swapTried words ticket team = swapTriedIn (ticket .phase) words ticket team
 
 -- Tries counts the swaps tried, waits included.
 abbrev pub mostTries : ℕ
@@ -90,6 +98,71 @@ givenBack ticket =
     (stepped noTicket (Stale (targetAt ticket (ticket .claimed) .word) (oneMoreTry (ticket .tries))))
     (stepped (advanced ticket GivingBack (ticket .claimed) more) (Returned more))
 
+-- A view with the value found noted: it takes the place of a quoted one.
+abbrev pub noting : Ticket → ℕ → Ticket
+noting ticket found = record {
+  quoted = set (ticket .quoted) (ticket .claimed) found;
+  new = ticket .new;
+  words = ticket .words;
+  n = ticket .n;
+  tries = ticket .tries;
+  claimed = ticket .claimed;
+  done = ticket .done;
+  phase = ticket .phase;
+}
+
+-- A view found a value: it is noted (Claimed; with the n-th the view gives back, nothing done yet).
+abbrev pub viewClaimed : Ticket → ℕ → Stepped
+viewClaimed ticket found =
+    let more = ticket .claimed + 1 in
+    let noted = noting ticket found in
+    stepped (cond (eqb more (ticket .n)) (advanced noted Viewed more 0) (advanced noted Viewing more (ticket .done))) (Claimed more)
+
+-- A view found a mark: it waits, as an edit does.
+abbrev pub viewWaited : Ticket → Stepped
+viewWaited ticket = stepped (advanced ticket Viewing (ticket .claimed) (ticket .done)) (Waiting (targetAt ticket (ticket .claimed) .word))
+
+-- The value noted for a word.
+unfoldable pub valueNoted : List Target → ℕ → ℕ
+valueNoted [] word = 0
+valueNoted (target ∷ targets) word = cond (eqb word (target .word)) (target .quoted) (valueNoted targets word)
+
+-- Values in the order named, in room for six: an answer holds no list. One that there is not is 0.
+abbrev pub valuesFrom : ℕ → List ℕ → Values
+valuesFrom n values = record {
+  n = n;
+  first = getD values 0 0;
+  second = getD values 1 0;
+  third = getD values 2 0;
+  fourth = getD values 3 0;
+  fifth = getD values 4 0;
+  sixth = getD values 5 0;
+}
+
+-- The room, as a list.
+abbrev pub valuesOf : Values → List ℕ
+valuesOf seen = seen .first ∷ seen .second ∷ seen .third ∷ seen .fourth ∷ seen .fifth ∷ seen .sixth ∷ []
+
+-- "The values in the order named",
+abbrev pub valuesNamed : Ticket → List ℕ
+valuesNamed ticket = map (valueNoted (targetsIn ticket)) (namedIn ticket)
+
+-- value k of them, counted from 0; 0 for one that there is not,
+abbrev pub valueNamed : Ticket → ℕ → ℕ
+valueNamed ticket k = getD (valuesNamed ticket) k 0
+
+-- and all.
+abbrev pub valuesSeen : Ticket → Values
+valuesSeen ticket = valuesFrom (ticket .n) (valuesNamed ticket)
+
+-- A view gives back (Returned; the last: Seen, with the values).
+abbrev pub viewGivenBack : Ticket → Stepped
+viewGivenBack ticket =
+    let more = ticket .done + 1 in
+    cond (eqb more (ticket .claimed))
+    (stepped noTicket (Seen (valuesSeen ticket)))
+    (stepped (advanced ticket Viewed (ticket .claimed) more) (Returned more))
+
 -- The ticket and the answer after the swap, by the phase and the word found. (No ticket takes no step: its case makes the definition total.)
 abbrev pub settledIn : Phase → Ticket → ℕ → Stepped
 settledIn Claiming ticket found =
@@ -98,45 +171,57 @@ settledIn Claiming ticket found =
     (differed ticket))
 settledIn Putting ticket found = put ticket
 settledIn GivingBack ticket found = givenBack ticket
+settledIn Viewing ticket found = cond (isHeld found) (viewWaited ticket) (viewClaimed ticket found)
+settledIn Viewed ticket found = viewGivenBack ticket
 settledIn NoTicket ticket found = givenBack ticket
 
 unfoldable pub settled : Ticket → ℕ → Stepped
 settled ticket found = settledIn (ticket .phase) ticket found
 
--- Whether a ticket is gone with an answer: "a finished ticket is gone".
-abbrev pub finishes : StepAnswer → Bool
-finishes (Claimed many) = false
-finishes (Waiting word) = false
-finishes (Found word) = false
-finishes (Put many) = false
-finishes (Returned many) = false
-finishes (Granted tries) = true
-finishes (Stale word tries) = true
+-- The answer to an edit's step, among those to any step.
+abbrev pub asStep : EditAnswer → StepAnswer
+asStep (Edits.Claimed many) = Claimed many
+asStep (Edits.Waiting word) = Waiting word
+asStep (Edits.Found word) = Found word
+asStep (Edits.Put many) = Put many
+asStep (Edits.Returned many) = Returned many
+asStep (Edits.Granted tries) = Granted tries
+asStep (Edits.Stale word tries) = Stale word tries
 
--- The ticket that a step leaves, by the answer alone.
-abbrev pub afterAnswer : Ticket → StepAnswer → Ticket
-afterAnswer ticket (Claimed many) = claimed ticket .ticket
-afterAnswer ticket (Waiting word) = advanced ticket Claiming (ticket .claimed) (ticket .done)
-afterAnswer ticket (Found word) = advanced ticket GivingBack (ticket .claimed) 0
-afterAnswer ticket (Put many) = advanced ticket Putting (ticket .claimed) (ticket .done + 1)
-afterAnswer ticket (Returned many) = advanced ticket GivingBack (ticket .claimed) (ticket .done + 1)
-afterAnswer ticket (Granted tries) = noTicket
-afterAnswer ticket (Stale word tries) = noTicket
+-- Whether an edit's ticket is gone with an answer: "a finished ticket is gone".
+abbrev pub finishes : EditAnswer → Bool
+finishes (Edits.Claimed many) = false
+finishes (Edits.Waiting word) = false
+finishes (Edits.Found word) = false
+finishes (Edits.Put many) = false
+finishes (Edits.Returned many) = false
+finishes (Edits.Granted tries) = true
+finishes (Edits.Stale word tries) = true
+
+-- The ticket that a step of an edit leaves, by the answer alone. (A view's depends on the value found.)
+abbrev pub afterAnswer : Ticket → EditAnswer → Ticket
+afterAnswer ticket (Edits.Claimed many) = claimed ticket .ticket
+afterAnswer ticket (Edits.Waiting word) = advanced ticket Claiming (ticket .claimed) (ticket .done)
+afterAnswer ticket (Edits.Found word) = advanced ticket GivingBack (ticket .claimed) 0
+afterAnswer ticket (Edits.Put many) = advanced ticket Putting (ticket .claimed) (ticket .done + 1)
+afterAnswer ticket (Edits.Returned many) = advanced ticket GivingBack (ticket .claimed) (ticket .done + 1)
+afterAnswer ticket (Edits.Granted tries) = noTicket
+afterAnswer ticket (Edits.Stale word tries) = noTicket
 
 -- What an answer says of the counts that the ticket had: there was one more to claim, and after this one, one to put or to give back.
-abbrev pub AnswerFits : Ticket → StepAnswer → Type 0
-AnswerFits ticket (Claimed many) = ticket .claimed < ticket .n
-AnswerFits ticket (Waiting word) = Unit {0}
-AnswerFits ticket (Found word) = Unit {0}
-AnswerFits ticket (Put many) = ticket .done + 1 < ticket .n
-AnswerFits ticket (Returned many) = ticket .done + 1 < ticket .claimed
-AnswerFits ticket (Granted tries) = Unit {0}
-AnswerFits ticket (Stale word tries) = Unit {0}
+abbrev pub AnswerFits : Ticket → EditAnswer → Type 0
+AnswerFits ticket (Edits.Claimed many) = ticket .claimed < ticket .n
+AnswerFits ticket (Edits.Waiting word) = Unit {0}
+AnswerFits ticket (Edits.Found word) = Unit {0}
+AnswerFits ticket (Edits.Put many) = ticket .done + 1 < ticket .n
+AnswerFits ticket (Edits.Returned many) = ticket .done + 1 < ticket .claimed
+AnswerFits ticket (Edits.Granted tries) = Unit {0}
+AnswerFits ticket (Edits.Stale word tries) = Unit {0}
 
 -- A step is one conditional swap: the one that the ticket tries. What it found settles the ticket and the answer.
 unfoldable pub stepOf : Words → Ticket → ℕ → Stepped × Words
 stepOf words ticket team =
-    let tried = swapTried ticket team in
+    let tried = swapTried words ticket team in
     let swap = swapOf words (tried .word) (tried .expected) (tried .desired) in
     (settled ticket (swap .found), swap .words)
 

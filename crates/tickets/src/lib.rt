@@ -3,10 +3,11 @@ ghost use mathlib.Core.Path.{_≡_};
 ghost use mathlib.Core.Bool.{Bool, true, false};
 ghost use Prim.Native.Nat.{ℕ, _+_, _≤_, _<_};
 ghost use lib.ListN.{length};
-ghost use Rattle.words.specs.Words.{wordsInBook, teamCount, mostTargets};
-ghost use Rattle.tickets.specs.declared.Phase.the-variants.{Claiming};
-ghost use Rattle.tickets.specs.Tickets.{noTicket, freshTickets, targetAt, hasTicket, targetWellMade, countsWellMade, wellMade};
-ghost use Rattle.tickets.specs.Steps.{tries, oneMoreTry, advanced, swapTried, stepped, claimed, put, givenBack, settledIn, settled, finishes, afterAnswer, AnswerFits, stepOf, lookOf};
+ghost use Rattle.words.specs.Tests.{occurs, allOccur};
+ghost use Rattle.words.specs.Words.{Words, wordsInBook, teamCount, mostTargets};
+ghost use Rattle.tickets.specs.declared.Phase.the-variants.{Claiming, Viewing, Viewed};
+ghost use Rattle.tickets.specs.Tickets.{noTicket, freshTickets, targetAt, targetsIn, wordsIn, namedIn, hasTicket, isView, targetWellMade, countsWellMade, viewWellMade, wellMade};
+ghost use Rattle.tickets.specs.Steps.{tries, oneMoreTry, advanced, swapTried, stepped, claimed, put, givenBack, settledIn, settled, noting, viewClaimed, valueNoted, valueNamed, valuesSeen, viewGivenBack, asStep, finishes, afterAnswer, AnswerFits, stepOf, lookOf};
 use words::Limits;
 
 // A word, the value that the edit quotes for it (in the source document: expected) and its new value (desired).
@@ -16,17 +17,21 @@ pub struct Target {
     pub new: u64,
 }
 
-// "No ticket" stands first: it is the phase of an empty slot.
+// "No ticket" stands first: it is the phase of an empty slot. An edit is claiming, then putting or giving back; a view
+// (in the literature: an atomic multi-word read, or snapshot) claims, then gives back. A view that is putting can't be written.
 pub enum Phase {
     NoTicket,
     Claiming,
     Putting,
     GivingBack,
+    Viewing,
+    Viewed,
 }
 
 // A ticket (in the source document: a multi-word compare-and-swap descriptor). Its k-th target is the
-// k-th of words, quoted and new. The fields stand so that a copy never straddles two of them: it is passed
-// by value at little cost.
+// k-th of words, quoted and new. A view keeps the values that it found where an edit keeps those it quotes, and the words
+// in the order named where an edit keeps new values. The fields stand so that a copy never straddles two of them: it is
+// passed by value at little cost.
 pub struct Ticket {
     pub words: [u16; Limits::TARGETS],
     pub tries: u32,
@@ -58,6 +63,30 @@ pub enum StepAnswer {
     Returned(u16),
     Granted(u32),
     Stale(u16, u32),
+    Seen(Values),
+}
+
+// The answer to a step of an edit: small, and handed on by value where most frames go.
+pub enum EditAnswer {
+    Claimed(u16),
+    Waiting(u16),
+    Found(u16),
+    Put(u16),
+    Returned(u16),
+    Granted(u32),
+    Stale(u16, u32),
+}
+
+// What a view has seen: the values of its n words, in the order named; room not used is zeros. One field each: an answer
+// is an enum, which can't hold an array.
+pub struct Values {
+    pub n: u16,
+    pub first: u64,
+    pub second: u64,
+    pub third: u64,
+    pub fourth: u64,
+    pub fifth: u64,
+    pub sixth: u64,
 }
 
 pub enum LookAnswer {
@@ -65,8 +94,8 @@ pub enum LookAnswer {
     Value(u64),
 }
 
-// A ticket after a step, and the step's answer, as the definitions have them together. The code hands on the answer
-// alone, which says what becomes of the ticket.
+// A ticket after a step, and the step's answer. An edit's code hands on the answer alone, which says what becomes of the
+// ticket; a view's step gives both.
 pub struct Stepped {
     pub ticket: Ticket,
     pub answer: StepAnswer,
@@ -126,6 +155,23 @@ impl Ticket {
             Phase::Claiming => true,
             Phase::Putting => true,
             Phase::GivingBack => true,
+            Phase::Viewing => true,
+            Phase::Viewed => true,
+        }
+    }
+
+    // Whether this is a view.
+    pub fn is_view(self) -> bool
+        ensures { λ r. ⌜ r ≡ isView (self .phase) ⌝ }
+    {
+        let phase = self.phase;
+        match phase {
+            Phase::NoTicket => false,
+            Phase::Claiming => false,
+            Phase::Putting => false,
+            Phase::GivingBack => false,
+            Phase::Viewing => true,
+            Phase::Viewed => true,
         }
     }
 
@@ -161,7 +207,62 @@ impl Ticket {
                     false
                 }
             }
+            Phase::Viewing => self.claimed < self.n,
+            Phase::Viewed => {
+                if self.done < self.claimed {
+                    self.claimed == self.n
+                } else {
+                    false
+                }
+            }
         }
+    }
+
+    // Whether a word is one of the targets.
+    fn claims(self, word: u64) -> bool
+        requires { ⌜ self .n ≤ mostTargets ⌝ }
+        ensures { λ r. ⌜ r ≡ occurs word (wordsIn self) ⌝ }
+    {
+        let n = self.n;
+        let mut k: u16 = 0;
+        while k < n {
+            if self.target(k).word as u64 == word {
+                return true;
+            }
+            k += 1;
+        }
+        false
+    }
+
+    // Whether each word named is one of the targets.
+    fn names_targets(self) -> bool
+        requires { ⌜ self .n ≤ mostTargets ⌝ }
+        ensures { λ r. ⌜ r ≡ allOccur (namedIn self) (wordsIn self) ⌝ }
+    {
+        let n = self.n;
+        let mut k: u16 = 0;
+        while k < n {
+            if !self.claims(self.target(k).new) {
+                return false;
+            }
+            k += 1;
+        }
+        true
+    }
+
+    // A view's named words are distinct, and its targets in some order; an edit has none.
+    fn view_well_made(self) -> bool
+        requires { ⌜ self .n ≤ mostTargets ⌝ }
+        ensures { λ r. ⌜ r ≡ viewWellMade (self .phase) self ⌝ }
+    {
+        if !self.is_view() {
+            return true;
+        }
+        let named = self.new;
+        if !words::distinct(named, self.n as usize) {
+            return false;
+        }
+        self.names_targets()
     }
 
     pub fn well_made(self) -> bool
@@ -181,7 +282,10 @@ impl Ticket {
             }
             k += 1;
         }
-        self.counts_well_made()
+        if !self.counts_well_made() {
+            return false;
+        }
+        self.view_well_made()
     }
 
     // The tries after one more.
@@ -215,10 +319,10 @@ impl Ticket {
         }
     }
 
-    // The conditional swap that the next step tries.
+    // The conditional swap that an edit's next step tries, whatever the words are.
     pub fn swap_tried(self, team: u16) -> SwapTried
-        requires { ⌜ (wellMade self ≡ true) × (team < teamCount) ⌝ }
-        ensures { λ r. ⌜ (r ≡ swapTried self team) × (r .word < wordsInBook) ⌝ }
+        requires { ⌜ (wellMade self ≡ true) × (isView (self .phase) ≡ false) × (team < teamCount) ⌝ }
+        ensures { λ r. ⌜ ((words : Words) → r ≡ swapTried words self team) × (r .word < wordsInBook) ⌝ }
     {
         let mark = words::mark(team);
         let phase = self.phase;
@@ -236,6 +340,8 @@ impl Ticket {
                 swap_of(next.word, mark, next.quoted)
             }
             Phase::NoTicket => swap_of(0, 0, 0),
+            Phase::Viewing => swap_of(0, 0, 0),
+            Phase::Viewed => swap_of(0, 0, 0),
         }
     }
 
@@ -279,51 +385,51 @@ impl Ticket {
     }
 
     // The answer of a step whose swap, while claiming, found a word.
-    fn claim_answer(self, found: u64) -> StepAnswer
+    fn claim_answer(self, found: u64) -> EditAnswer
         requires { ⌜ (self .claimed < self .n) × (self .n ≤ mostTargets) ⌝ }
-        ensures { λ r. ⌜ r ≡ settledIn Claiming self found .answer ⌝ }
+        ensures { λ r. ⌜ asStep r ≡ settledIn Claiming self found .answer ⌝ }
     {
         let next = self.target(self.claimed);
         if found == next.quoted {
-            return StepAnswer::Claimed(self.claimed + 1);
+            return EditAnswer::Claimed(self.claimed + 1);
         }
         if words::is_held(found) {
-            return StepAnswer::Waiting(next.word);
+            return EditAnswer::Waiting(next.word);
         }
         if self.claimed == 0 {
-            return StepAnswer::Stale(next.word, self.tried());
+            return EditAnswer::Stale(next.word, self.tried());
         }
-        StepAnswer::Found(next.word)
+        EditAnswer::Found(next.word)
     }
 
-    fn put_answer(self) -> StepAnswer
+    fn put_answer(self) -> EditAnswer
         requires { ⌜ self .done < self .n ⌝ }
-        ensures { λ r. ⌜ r ≡ put self .answer ⌝ }
+        ensures { λ r. ⌜ asStep r ≡ put self .answer ⌝ }
     {
         let put = self.done + 1;
         if put == self.n {
-            return StepAnswer::Granted(self.tried());
+            return EditAnswer::Granted(self.tried());
         }
-        StepAnswer::Put(put)
+        EditAnswer::Put(put)
     }
 
     // The last names the word that differed, the first not claimed.
-    fn give_back_answer(self) -> StepAnswer
+    fn give_back_answer(self) -> EditAnswer
         requires { ⌜ (self .done < self .claimed) × (self .claimed < mostTargets) ⌝ }
-        ensures { λ r. ⌜ r ≡ givenBack self .answer ⌝ }
+        ensures { λ r. ⌜ asStep r ≡ givenBack self .answer ⌝ }
     {
         let returned = self.done + 1;
         if returned == self.claimed {
             let differed = self.target(self.claimed);
-            return StepAnswer::Stale(differed.word, self.tried());
+            return EditAnswer::Stale(differed.word, self.tried());
         }
-        StepAnswer::Returned(returned)
+        EditAnswer::Returned(returned)
     }
 
-    // The answer of a step whose swap found a word.
-    fn answer(self, found: u64) -> StepAnswer
-        requires { ⌜ wellMade self ≡ true ⌝ }
-        ensures { λ r. ⌜ r ≡ settled self found .answer ⌝ }
+    // The answer of an edit's step whose swap found a word.
+    fn answer(self, found: u64) -> EditAnswer
+        requires { ⌜ (wellMade self ≡ true) × (isView (self .phase) ≡ false) ⌝ }
+        ensures { λ r. ⌜ asStep r ≡ settled self found .answer ⌝ }
     {
         let phase = self.phase;
         match phase {
@@ -331,27 +437,29 @@ impl Ticket {
             Phase::Putting => self.put_answer(),
             Phase::GivingBack => self.give_back_answer(),
             Phase::NoTicket => self.give_back_answer(),
+            Phase::Viewing => self.give_back_answer(),
+            Phase::Viewed => self.give_back_answer(),
         }
     }
 
     // The ticket advanced by a step that goes on, by its answer.
-    fn advanced_by(self, answer: StepAnswer) -> Ticket
+    fn advanced_by(self, answer: EditAnswer) -> Ticket
         requires { ⌜ (finishes answer ≡ false) × AnswerFits self answer ⌝ }
         ensures { λ r. ⌜ r ≡ afterAnswer self answer ⌝ }
     {
         match answer {
-            StepAnswer::Claimed(many) => self.claim(),
-            StepAnswer::Waiting(word) => self.advanced(Phase::Claiming, self.claimed, self.done),
-            StepAnswer::Found(word) => self.advanced(Phase::GivingBack, self.claimed, 0),
-            StepAnswer::Put(many) => self.put(),
-            StepAnswer::Returned(many) => self.give_back(),
-            StepAnswer::Granted(tries) => Ticket::none(),
-            StepAnswer::Stale(word, tries) => Ticket::none(),
+            EditAnswer::Claimed(many) => self.claim(),
+            EditAnswer::Waiting(word) => self.advanced(Phase::Claiming, self.claimed, self.done),
+            EditAnswer::Found(word) => self.advanced(Phase::GivingBack, self.claimed, 0),
+            EditAnswer::Put(many) => self.put(),
+            EditAnswer::Returned(many) => self.give_back(),
+            EditAnswer::Granted(tries) => Ticket::none(),
+            EditAnswer::Stale(word, tries) => Ticket::none(),
         }
     }
 
     // The same, as its own targets with the counts of the ticket advanced: stored in its slot, it copies no target.
-    pub fn after(self, answer: StepAnswer) -> Ticket
+    pub fn after(self, answer: EditAnswer) -> Ticket
         requires { ⌜ (finishes answer ≡ false) × AnswerFits self answer ⌝ }
         ensures { λ r. ⌜ r ≡ afterAnswer self answer ⌝ }
     {
@@ -371,21 +479,154 @@ impl Ticket {
             phase: phase,
         }
     }
+
+    // The value found, in the place of a quoted one.
+    fn noting(self, found: u64) -> Ticket
+        requires { ⌜ self .claimed < mostTargets ⌝ }
+        ensures { λ r. ⌜ r ≡ noting self found ⌝ }
+    {
+        let mut quoted = self.quoted;
+        let new = self.new;
+        let words = self.words;
+        let phase = self.phase;
+        quoted[self.claimed as usize] = found;
+        Ticket {
+            quoted: quoted,
+            new: new,
+            words: words,
+            n: self.n,
+            tries: self.tries,
+            claimed: self.claimed,
+            done: self.done,
+            phase: phase,
+        }
+    }
+
+    // One more word of a view claimed: its value noted, the view advanced, and giving back once it has them all.
+    pub fn note(self, found: u64) -> Ticket
+        requires { ⌜ (self .claimed < self .n) × (self .n ≤ mostTargets) ⌝ }
+        ensures { λ r. ⌜ r ≡ viewClaimed self found .ticket ⌝ }
+    {
+        let noted = self.noting(found);
+        let claimed = self.claimed + 1;
+        if claimed == self.n {
+            noted.advanced(Phase::Viewed, claimed, 0)
+        } else {
+            noted.advanced(Phase::Viewing, claimed, self.done)
+        }
+    }
+
+    // The value noted for a word.
+    fn value_noted(self, word: u64) -> u64
+        requires { ⌜ self .n ≤ mostTargets ⌝ }
+        ensures { λ r. ⌜ r ≡ valueNoted (targetsIn self) word ⌝ }
+    {
+        let n = self.n;
+        let mut k: u16 = 0;
+        while k < n {
+            let target = self.target(k);
+            if target.word as u64 == word {
+                return target.quoted;
+            }
+            k += 1;
+        }
+        0
+    }
+
+    // The value noted for the k-th word named; none, 0.
+    fn value_shown(self, k: u16) -> u64
+        requires { ⌜ self .n ≤ mostTargets ⌝ }
+        ensures { λ r. ⌜ r ≡ valueNamed self k ⌝ }
+    {
+        if k < self.n {
+            let named = self.target(k);
+            self.value_noted(named.new)
+        } else {
+            0
+        }
+    }
+
+    // The values noted, in the order named.
+    fn values_seen(self) -> Values
+        requires { ⌜ self .n ≤ mostTargets ⌝ }
+        ensures { λ r. ⌜ r ≡ valuesSeen self ⌝ }
+    {
+        Values {
+            n: self.n,
+            first: self.value_shown(0),
+            second: self.value_shown(1),
+            third: self.value_shown(2),
+            fourth: self.value_shown(3),
+            fifth: self.value_shown(4),
+            sixth: self.value_shown(5),
+        }
+    }
+
+    // What a view's claiming swap settles.
+    fn view_claim(self, found: u64) -> Stepped
+        requires { ⌜ (self .claimed < self .n) × (self .n ≤ mostTargets) ⌝ }
+        ensures { λ r. ⌜ r ≡ settledIn Viewing self found ⌝ }
+    {
+        if words::is_held(found) {
+            let next = self.target(self.claimed);
+            return Stepped {
+                ticket: self.advanced(Phase::Viewing, self.claimed, self.done),
+                answer: StepAnswer::Waiting(next.word),
+            };
+        }
+        Stepped {
+            ticket: self.note(found),
+            answer: StepAnswer::Claimed(self.claimed + 1),
+        }
+    }
+
+    // One more word of a view given back: the view advanced, and gone with the last, which shows the values.
+    fn view_give_back(self) -> Stepped
+        requires { ⌜ (self .done < self .claimed) × (self .n ≤ mostTargets) ⌝ }
+        ensures { λ r. ⌜ r ≡ viewGivenBack self ⌝ }
+    {
+        let given = self.done + 1;
+        if given == self.claimed {
+            return Stepped {
+                ticket: Ticket::none(),
+                answer: StepAnswer::Seen(self.values_seen()),
+            };
+        }
+        Stepped {
+            ticket: self.advanced(Phase::Viewed, self.claimed, given),
+            answer: StepAnswer::Returned(given),
+        }
+    }
 }
 
-impl StepAnswer {
+impl EditAnswer {
     // Whether the ticket is gone with it.
     pub fn finishes(self) -> bool
         ensures { λ r. ⌜ r ≡ finishes self ⌝ }
     {
         match self {
-            StepAnswer::Claimed(many) => false,
-            StepAnswer::Waiting(word) => false,
-            StepAnswer::Found(word) => false,
-            StepAnswer::Put(many) => false,
-            StepAnswer::Returned(many) => false,
-            StepAnswer::Granted(tries) => true,
-            StepAnswer::Stale(word, tries) => true,
+            EditAnswer::Claimed(many) => false,
+            EditAnswer::Waiting(word) => false,
+            EditAnswer::Found(word) => false,
+            EditAnswer::Put(many) => false,
+            EditAnswer::Returned(many) => false,
+            EditAnswer::Granted(tries) => true,
+            EditAnswer::Stale(word, tries) => true,
+        }
+    }
+
+    // The same, among the answers to any step.
+    pub fn as_step(self) -> StepAnswer
+        ensures { λ r. ⌜ r ≡ asStep self ⌝ }
+    {
+        match self {
+            EditAnswer::Claimed(many) => StepAnswer::Claimed(many),
+            EditAnswer::Waiting(word) => StepAnswer::Waiting(word),
+            EditAnswer::Found(word) => StepAnswer::Found(word),
+            EditAnswer::Put(many) => StepAnswer::Put(many),
+            EditAnswer::Returned(many) => StepAnswer::Returned(many),
+            EditAnswer::Granted(tries) => StepAnswer::Granted(tries),
+            EditAnswer::Stale(word, tries) => StepAnswer::Stale(word, tries),
         }
     }
 }
@@ -401,16 +642,54 @@ impl Tickets {
     }
 }
 
-// One step of a team's ticket: one conditional swap, and its answer, which says what becomes of the ticket.
-pub fn step(book: &mut [u64], ticket: Ticket, team: u16) -> StepAnswer
-    requires { ⌜ (length (now book) ≡ wordsInBook) × (wellMade ticket ≡ true) × (team < teamCount) ⌝ }
-    ensures step { λ r. ⌜ (stepped (afterAnswer ticket r) r, now (book .exit)) ≡ stepOf (now (book .entry)) ticket team ⌝ }
+// One step of a team's edit: one conditional swap, and its answer, which says what becomes of the ticket.
+pub fn step(book: &mut [u64], ticket: Ticket, team: u16) -> EditAnswer
+    requires { ⌜ (length (now book) ≡ wordsInBook) × (wellMade ticket ≡ true) × (isView (ticket .phase) ≡ false) × (team < teamCount) ⌝ }
+    ensures step { λ r. ⌜ (stepped (afterAnswer ticket r) (asStep r), now (book .exit)) ≡ stepOf (now (book .entry)) ticket team ⌝ }
     ensures fits { λ r. ⌜ AnswerFits ticket r ⌝ }
 {
     let tried = ticket.swap_tried(team);
     let at = tried.word as usize;
     let found = words::conditional_swap(book, at, tried.expected, tried.desired);
     ticket.answer(found)
+}
+
+// One step of a view that claims: one swap, which takes any value.
+fn view_claim_step(book: &mut [u64], ticket: Ticket, team: u16) -> Stepped
+    requires { ⌜ (length (now book) ≡ wordsInBook) × (wellMade ticket ≡ true) × (ticket .phase ≡ Viewing) × (team < teamCount) ⌝ }
+    ensures { λ r. ⌜ (r, now (book .exit)) ≡ stepOf (now (book .entry)) ticket team ⌝ }
+{
+    let next = ticket.target(ticket.claimed);
+    let mark = words::mark(team);
+    let found = words::swap_any_value(book, next.word as usize, mark);
+    ticket.view_claim(found)
+}
+
+// One step of a view that gives back: one conditional swap.
+fn view_give_back_step(book: &mut [u64], ticket: Ticket, team: u16) -> Stepped
+    requires { ⌜ (length (now book) ≡ wordsInBook) × (wellMade ticket ≡ true) × (ticket .phase ≡ Viewed) × (team < teamCount) ⌝ }
+    ensures { λ r. ⌜ (r, now (book .exit)) ≡ stepOf (now (book .entry)) ticket team ⌝ }
+{
+    let next = ticket.target(ticket.done);
+    let mark = words::mark(team);
+    words::conditional_swap(book, next.word as usize, mark, next.quoted);
+    ticket.view_give_back()
+}
+
+// One step of a team's view.
+pub fn view_step(book: &mut [u64], ticket: Ticket, team: u16) -> Stepped
+    requires { ⌜ (length (now book) ≡ wordsInBook) × (wellMade ticket ≡ true) × (isView (ticket .phase) ≡ true) × (team < teamCount) ⌝ }
+    ensures { λ r. ⌜ (r, now (book .exit)) ≡ stepOf (now (book .entry)) ticket team ⌝ }
+{
+    let phase = ticket.phase;
+    match phase {
+        Phase::Viewing => view_claim_step(book, ticket, team),
+        Phase::Viewed => view_give_back_step(book, ticket, team),
+        Phase::NoTicket => view_give_back_step(book, ticket, team),
+        Phase::Claiming => view_give_back_step(book, ticket, team),
+        Phase::Putting => view_give_back_step(book, ticket, team),
+        Phase::GivingBack => view_give_back_step(book, ticket, team),
+    }
 }
 
 // One look at a word: one read.

@@ -78,3 +78,7 @@ swapOf words at expected desired = record {
   found = readOf words at;
   words = cond (eqb (readOf words at) expected) (set words at desired) words;
 }
+
+-- What the claiming swap of a view expects: whatever value it finds. A mark is none: 0 is expected then, which no mark is.
+abbrev pub anyValue : ℕ → ℕ
+anyValue found = cond (isHeld found) 0 found

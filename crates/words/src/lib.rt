@@ -2,8 +2,9 @@
 ghost use mathlib.Core.Path.{_≡_};
 ghost use mathlib.Core.Bool.{Bool, true};
 ghost use Prim.Native.Nat.{_≤_, _<_};
-ghost use lib.ListN.{length};
-ghost use Rattle.words.specs.Words.{teamCount, passageCount, lastLeg, isHeld, markOf, newestWord, countWord, linkWord, placeWord, measureWord, readOf, swapOf};
+ghost use lib.ListN.{length, take, drop};
+ghost use Rattle.words.specs.Tests.{occurs, distinct};
+ghost use Rattle.words.specs.Words.{teamCount, mostTargets, passageCount, lastLeg, isHeld, markOf, newestWord, countWord, linkWord, placeWord, measureWord, readOf, swapOf, anyValue};
 
 // The limits of the book and its layout.
 pub struct Limits {}
@@ -100,4 +101,47 @@ pub fn conditional_swap(book: &mut [u64], at: usize, expected: u64, desired: u64
         book[at] = desired;
     }
     found
+}
+
+// The conditional swap that expects whatever value it finds: a mark alone stays. Returns the word found.
+pub fn swap_any_value(book: &mut [u64], at: usize, desired: u64) -> u64
+    requires { ⌜ at < length (now book) ⌝ }
+    ensures found { λ r. ⌜ r ≡ swapOf (now (book .entry)) at (anyValue (readOf (now (book .entry)) at)) desired .found ⌝ }
+    ensures words { λ r. ⌜ now (book .exit) ≡ swapOf (now (book .entry)) at (anyValue (readOf (now (book .entry)) at)) desired .words ⌝ }
+{
+    let found = book[at];
+    if !is_held(found) {
+        book[at] = desired;
+    }
+    found
+}
+
+// Whether a number is among the first n, from one on.
+pub fn occurs_from(numbers: [u64; Limits::TARGETS], from: usize, n: usize, number: u64) -> bool
+    requires { ⌜ n ≤ mostTargets ⌝ }
+    ensures { λ r. ⌜ r ≡ occurs number (drop from (take n numbers)) ⌝ }
+{
+    let mut k = from;
+    while k < n {
+        if numbers[k] == number {
+            return true;
+        }
+        k += 1;
+    }
+    false
+}
+
+// Whether no number is twice among the first n.
+pub fn distinct(numbers: [u64; Limits::TARGETS], n: usize) -> bool
+    requires { ⌜ n ≤ mostTargets ⌝ }
+    ensures { λ r. ⌜ r ≡ distinct (take n numbers) ⌝ }
+{
+    let mut k: usize = 0;
+    while k < n {
+        if occurs_from(numbers, k + 1, n, numbers[k]) {
+            return false;
+        }
+        k += 1;
+    }
+    true
 }

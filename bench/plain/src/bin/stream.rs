@@ -11,8 +11,10 @@
 use plain::*;
 use std::io::{self, BufWriter, Write};
 
-/// Of a thousand frames, how many are looks and how many are to be refused.
-const LOOKS: u64 = 80;
+/// Of a thousand frames, how many are looks, how many are views if a team is free
+/// for one, and how many are to be refused.
+const LOOKS: u64 = 74;
+const VIEWS: u64 = 6;
 const REFUSALS: u64 = 5;
 /// Of a hundred edits, how many quote a figure wrongly, and how many go to
 /// passages that other teams work in.
@@ -284,10 +286,16 @@ struct Teams {
     open: [Option<Edit>; TEAMS],
     /// Whether it was found stale, and is being given back.
     found: [bool; TEAMS],
+    /// Whether the ticket is a view.
+    viewing: [bool; TEAMS],
     filling: bool,
 }
 
 impl Teams {
+    fn has_ticket(&self, team: u16) -> bool {
+        self.open[team as usize].is_some() || self.viewing[team as usize]
+    }
+
     /// A passage: one of the team's own two, or now and then any.
     fn passage(&mut self, team: u16) -> u16 {
         if self.dice.percent(AWAY) {
@@ -383,7 +391,7 @@ impl Teams {
     /// A frame that is refused, for each reason that a stream can give.
     fn refusal(&mut self) -> (Frame, usize) {
         let team = self.dice.below(TEAMS as u64) as u16;
-        let has_ticket = self.open[team as usize].is_some();
+        let has_ticket = self.has_ticket(team);
         let leg = self.new_leg();
         let add = Edit::Add {
             p: 0,
@@ -398,7 +406,7 @@ impl Teams {
                 bytes[0] = self.dice.below(2) as u8;
                 (bytes, 2 + bytes[0] as usize)
             }
-            1 => Writer::new(7, team).whole(),
+            1 => Writer::new(8, team).whole(),
             2 => {
                 let mut writer = Writer::new(STEP, team);
                 writer.field(0);
@@ -435,17 +443,14 @@ impl Teams {
         if choice < REFUSALS {
             return self.refusal();
         }
-        if choice < REFUSALS + LOOKS {
-            // Half of the looks go to passages.
-            let end = if self.dice.percent(50) {
-                64
-            } else {
-                WORDS as u64
-            };
-            return Writer::new(LOOK, self.dice.below(end) as u16).whole();
+        if choice < REFUSALS + VIEWS {
+            return self.view();
+        }
+        if choice < REFUSALS + VIEWS + LOOKS {
+            return self.look();
         }
         let team = self.dice.below(TEAMS as u64) as u16;
-        if self.open[team as usize].is_some() {
+        if self.has_ticket(team) {
             return Writer::new(STEP, team).whole();
         }
         let edit = self.edit(team);
@@ -453,8 +458,41 @@ impl Teams {
         edit_frame(team, &edit)
     }
 
+    /// A look. Half of them go to passages.
+    fn look(&mut self) -> (Frame, usize) {
+        let end = if self.dice.percent(50) {
+            64
+        } else {
+            WORDS as u64
+        };
+        Writer::new(LOOK, self.dice.below(end) as u16).whole()
+    }
+
+    /// A view of a leg, or of one to six words of it, its passage and the next leg.
+    /// A look if no team is free.
+    fn view(&mut self) -> (Frame, usize) {
+        let first = self.dice.below(TEAMS as u64) as u16;
+        let mut turn = (0..TEAMS as u16).map(|k| (first + k) % TEAMS as u16);
+        let Some(team) = turn.find(|&team| !self.has_ticket(team)) else {
+            return self.look();
+        };
+        let p = self.passage(team);
+        let link = 61 + 3 * self.lists.newest(p).clamp(1, LAST_LEG - 1);
+        let words = [link + 2, link + 1, link, 2 * p, 2 * p + 1, link + 3];
+        let any = 1 + self.dice.below(words.len() as u64) as usize;
+        let n = if self.dice.percent(50) { 3 } else { any };
+        self.viewing[team as usize] = true;
+        let mut writer = Writer::new(VIEW, team);
+        writer.field(n as u16);
+        writer.fields(&words[..n]);
+        writer.whole()
+    }
+
     /// Takes in an answer to a step, and checks it against the lists.
     fn heard(&mut self, team: usize, answer: Answer) {
+        if answer.kind() == SEEN {
+            self.viewing[team] = false;
+        }
         let Some(edit) = self.open[team] else { return };
         let targets = match edit {
             Edit::Add { .. } | Edit::Strike { .. } => 5,
@@ -509,6 +547,7 @@ fn main() -> io::Result<()> {
         lists: Lists(vec![Vec::new(); PASSAGES as usize]),
         open: [None; TEAMS],
         found: [false; TEAMS],
+        viewing: [false; TEAMS],
         filling: true,
     };
     let mut kinds = [0u64; 256];
@@ -534,6 +573,7 @@ fn main() -> io::Result<()> {
         (STALE, "Stale"),
         (VALUE, "Value"),
         (HELD, "Held"),
+        (SEEN, "Seen"),
         (REFUSED, "Refused"),
     ];
     let counts = names.map(|(kind, name)| format!("{name} {}", kinds[kind as usize]));

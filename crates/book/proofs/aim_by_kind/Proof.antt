@@ -40,7 +40,7 @@ returns-2 c =
     let other = c .before .before .before .if1 .left in
     let below : teamIn (partAfterKind frame) < teamCount = subst (λ (t : ℕ). t < teamCount) team (c .if2 .taken) in (
       ap (Aim.Team kind) team ∙ aim-team frame kind other below,
-      (start .pre, omega (arith, start .pre .last, other), c .if2 .taken),
+      (start .pre, other, c .if2 .taken),
     )
 
 returns-3 : tie.Need-returns-3

@@ -1,35 +1,22 @@
 -- `book::answer_frames` meets its contract. The loop's invariant: what the definition makes of what is left is what it makes of the whole.
 use borrow.Author.Needs.{needs}
 use native.Mathlib.Omega.{arith}
-use mathlib.Core.Bool.{true}
-use mathlib.Core.Path.{_≡_, refl, sym, ap, subst, _∙_}
-use Prim.Native.Nat.{ℕ, _+_, _-_, _<_, _≤_}
+use mathlib.Core.Path.{refl, sym, ap, subst, _∙_}
 use denote.Ref.{now}
-use lib.ListN.{length, take, drop}
-use Rattle.words.specs.Words.{Words, wordsInBook}
-use Rattle.frames.specs.Numbers.{Bytes}
+use lib.ListN.{length}
 use Rattle.calls.specs.declared.Stop.the-variants.{MoreInput}
-use Rattle.tickets.specs.Tickets.{ticketOf}
-use Rattle.frames.specs.Requests.{partAfterKind}
-use Rattle.frames.specs.declared.Answer.the-variants as Answer
-use Rattle.calls.specs.Way.{settled, OutcomeKnown, TableWellMade}
-use Rattle.calls.specs.Stream.{NextInside, roomIn, streamed, stoppedOr, streamFrom}
+use Rattle.calls.specs.Way.{OutcomeKnown}
+use Rattle.calls.specs.Stream.{NextInside, streamed, stoppedOr, streamFrom}
 use Rattle.calls.proofs.Way.{slot-same}
 use Rattle.calls.proofs.WellMadeTables.{each-byte, all-well-made}
 use Rattle.book.proofs.Going.{slot-known, gone-after}
-use Rattle.book.proofs.Turning.{frameAt, turned, turned-well-made}
+use Rattle.book.proofs.Turning.{frameAt, Goes, Turn, Point, ticketIn, partIn, turned, steps}
 use Rattle.calls.proofs.Streaming.{ends, stops, full}
 use Rattle.book.proofs.answer_frames.Statement.{statement}
 use Rattle.book.proofs.answer_frames.Tie as tie
 
 abbrev Inv-loop : tie.InvT-loop
-Inv-loop book₀ input out₀ tickets₀ known at₀ filled₀ left₀ book out tickets at filled left =
-    (length book ≡ wordsInBook)
-    × (at ≤ length input)
-    × (filled ≤ length out)
-    × (length out ≡ length out₀)
-    × (streamFrom left book tickets input out at filled ≡ streamFrom (length input) book₀ tickets₀ input out₀ 0 0)
-    × (known ≡ true → TableWellMade tickets)
+Inv-loop book₀ input out₀ tickets₀ known at₀ filled₀ left₀ = Goes input (length out₀) (streamFrom (length input) book₀ tickets₀ input out₀ 0 0) known
 
 abbrev μ-loop : tie.MeasureT-loop
 μ-loop book₀ input out₀ tickets₀ known at₀ filled₀ left₀ book out tickets at filled left = left
@@ -141,6 +128,36 @@ element-copy-out-ticket c = search needs
 settle-requires : tie.Need-settle-requires Inv-loop μ-loop
 settle-requires c κs = (search needs, search needs, λ known. c .before .before .before .before .before .before .before .before .before .before .before .loop .inv .5 known (c .before .before .slot-of .result) (c .before .before .slot-of .ensures .1))
 
+-- Where a frame is settled.
+abbrev turn-of : Point settle-requires → Turn
+turn-of c =
+    let loop = c .before .before .before .before .before .before .before .before .before .before .before .loop in
+    let input = now (c .before .before .before .before .before .before .before .before .before .before .before .before .before .before .before .before .args .input) in
+    record {
+      input = input;
+      long = _;
+      all = _;
+      known = _;
+      words = loop .book;
+      out = loop .out;
+      tickets = loop .tickets;
+      at = loop .at;
+      filled = loop .filled;
+      left = loop .left;
+      goes = loop .inv;
+      bytes = each-byte input (λ place. omega (arith, c .before .before .before .before .before .before .before .before .before .before .before .before .before .before .shared-slice-known .given place));
+      some = c .before .before .before .before .before .before .before .before .before .before .loop-test .taken;
+      found = c .before .before .before .before .before .before .before .before .before .next-frame .result;
+      found-is = c .before .before .before .before .before .before .before .before .before .next-frame .ensures;
+      size = c .before .before .before .before .before .before .before .next .given .0 .0;
+      sized = c .before .before .before .before .before .before .before .next .given .1;
+      room = c .before .before .before .before .before .if1 .left;
+      aim = c .before .before .before .aim-of .result;
+      aimed = c .before .before .before .aim-of .ensures;
+      slot = c .before .before .slot-of .result;
+      slotted = c .before .before .slot-of .ensures;
+    }
+
 enum-known-outcome : tie.Need-enum-known-outcome Inv-loop μ-loop
 enum-known-outcome c = search needs
 
@@ -152,39 +169,27 @@ loop-less c = omega (arith, c .before .before .before .before .before .before .b
 
 loop-again : tie.Need-loop-again Inv-loop μ-loop
 loop-again c =
-    let loop = c .before .before .before .before .before .before .before .before .before .before .before .before .before .before .before .before .before .before .before .before .before .loop in
-    let input = now (c .before .before .before .before .before .before .before .before .before .before .before .before .before .before .before .before .before .before .before .before .before .before .before .before .before .before .args .input) in
-    let size = c .before .before .before .before .before .before .before .before .before .before .before .before .before .before .before .before .before .next .given .0 .0 in
-    let slot = c .before .before .before .before .before .before .before .before .before .before .before .before .slot-of in
     let outcome = c .before .before .before .before .before .before .before .before .before .settle in
-    let ticket = ticketOf (loop .tickets) (slot .result) in
-    let whole = sym (c .before .before .before .before .before .before .before .before .before .before .before .before .before .before .before .before .before .before .before .next-frame .ensures .0) ∙ c .before .before .before .before .before .before .before .before .before .before .before .before .before .before .before .before .before .next .given .1 in
-    let inside = subst (NextInside input (loop .at)) (c .before .before .before .before .before .before .before .before .before .before .before .before .before .before .before .before .before .next .given .1) (c .before .before .before .before .before .before .before .before .before .before .before .before .before .before .before .before .before .before .before .next-frame .ensures .1) in
-    let room = c .before .before .before .before .before .before .before .before .before .before .before .before .before .before .before .if1 .left in
-    let put = c .before .before .put-answer in (
-      search needs,
-      inside .1,
-      omega (arith, put .ensures .0 .1, put .ensures .1 .1),
-      put .ensures .1 .1 ∙ loop .inv .3,
-      turned (loop .book) (loop .tickets) input (loop .out) (loop .at) (loop .filled) (loop .left) size (c .before .before .before .before .before .before .before .before .before .before .before .before .before .aim-of .result) (slot .result) (outcome .result) _
-          (settled ticket (c .before .before .before .before .before .outcome .given .0 .0))
-          (outcome .last .0) _ (put .result) (put .last .0)
-          (c .before .before .before .before .before .before .before .before .before .before .before .before .before .before .before .before .before .before .before .before .loop-test .taken) whole room (loop .inv .0) (c .before .before .before .before .before .before .before .before .before .before .before .before .before .aim-of .ensures .0) (slot .ensures .0) (outcome .ensures .0)
-          (c .before .before .before .before .before .outcome .given .1)
-          refl
-          (sym (slot-same (loop .tickets) (slot .result)))
-          (put .ensures .0 .0) (put .ensures .1 .0)
-          ∙ loop .inv .4,
-      λ known. turned-well-made (loop .book) (loop .tickets) input (loop .out) (loop .at) (loop .filled) (loop .left) size (c .before .before .before .before .before .before .before .before .before .before .before .before .before .aim-of .result) (slot .result) (outcome .result) _
-          (settled ticket (c .before .before .before .before .before .outcome .given .0 .0))
-          (outcome .last .0) _ (each-byte input (λ place. omega (arith, c .before .before .before .before .before .before .before .before .before .before .before .before .before .before .before .before .before .before .before .before .before .before .before .before .shared-slice-known .given place))) (loop .inv .5 known) (slot .ensures .1) (outcome .ensures .0)
-          (c .before .before .before .before .before .outcome .given .1)
-          refl
-          (sym (slot-same (loop .tickets) (slot .result))),
-    )
+    let turn = turn-of (c .before .before .before .before .before .before .before .before .before .before) in
+    turned turn (outcome .last .0) (outcome .ensures .0) (c .before .before .before .before .before .outcome .given .1) refl (sym (slot-same (turn .tickets) (turn .slot))) (search needs) (c .before .before .put-answer .ensures)
 
 enum-known-outcome-2 : tie.Need-enum-known-outcome-2 Inv-loop μ-loop
 enum-known-outcome-2 c = search needs
+
+put-answer-requires-2 : tie.Need-put-answer-requires-2 Inv-loop μ-loop
+put-answer-requires-2 c κs = search needs
+
+loop-less-2 : tie.Need-loop-less-2 Inv-loop μ-loop
+loop-less-2 c = omega (arith, c .before .before .before .before .before .before .before .before .before .before .before .before .before .before .before .before .before .before .before .before .loop-test .taken)
+
+loop-again-2 : tie.Need-loop-again-2 Inv-loop μ-loop
+loop-again-2 c =
+    let outcome = c .before .before .before .before .before .before .before .before .before .settle in
+    let turn = turn-of (c .before .before .before .before .before .before .before .before .before .before) in
+    turned turn (outcome .last .0) (outcome .ensures .0) (c .before .before .before .before .before .outcome2 .given .1) refl (sym (slot-same (turn .tickets) (turn .slot))) (search needs) (c .before .before .put-answer2 .ensures)
+
+enum-known-outcome-3 : tie.Need-enum-known-outcome-3 Inv-loop μ-loop
+enum-known-outcome-3 c = search needs
 
 finishes-requires : tie.Need-finishes-requires Inv-loop μ-loop
 finishes-requires c κs = search needs
@@ -198,56 +203,22 @@ mul-gone c = search needs
 element-set-from-gone : tie.Need-element-set-from-gone Inv-loop μ-loop
 element-set-from-gone c = search needs
 
-put-answer-requires-2 : tie.Need-put-answer-requires-2 Inv-loop μ-loop
-put-answer-requires-2 c κs = search needs
+put-step-requires : tie.Need-put-step-requires Inv-loop μ-loop
+put-step-requires c κs = search needs
 
-loop-less-2 : tie.Need-loop-less-2 Inv-loop μ-loop
-loop-less-2 c = omega (arith, c .before .before .before .before .before .before .before .before .before .before .before .before .before .before .before .before .before .before .before .before .before .before .before .loop-test .taken)
+loop-less-3 : tie.Need-loop-less-3 Inv-loop μ-loop
+loop-less-3 c = omega (arith, c .before .before .before .before .before .before .before .before .before .before .before .before .before .before .before .before .before .before .before .before .before .before .before .loop-test .taken)
 
-loop-again-2 : tie.Need-loop-again-2 Inv-loop μ-loop
-loop-again-2 c =
-    let loop = c .before .before .before .before .before .before .before .before .before .before .before .before .before .before .before .before .before .before .before .before .before .before .before .before .loop in
-    let input = now (c .before .before .before .before .before .before .before .before .before .before .before .before .before .before .before .before .before .before .before .before .before .before .before .before .before .before .before .before .before .args .input) in
-    let size = c .before .before .before .before .before .before .before .before .before .before .before .before .before .before .before .before .before .before .before .before .next .given .0 .0 in
-    let slot = c .before .before .before .before .before .before .before .before .before .before .before .before .before .before .before .slot-of in
+loop-again-3 : tie.Need-loop-again-3 Inv-loop μ-loop
+loop-again-3 c =
     let outcome = c .before .before .before .before .before .before .before .before .before .before .before .before .settle in
-    let ticket = ticketOf (loop .tickets) (slot .result) in
-    let whole = sym (c .before .before .before .before .before .before .before .before .before .before .before .before .before .before .before .before .before .before .before .before .before .before .next-frame .ensures .0) ∙ c .before .before .before .before .before .before .before .before .before .before .before .before .before .before .before .before .before .before .before .before .next .given .1 in
-    let inside = subst (NextInside input (loop .at)) (c .before .before .before .before .before .before .before .before .before .before .before .before .before .before .before .before .before .before .before .before .next .given .1) (c .before .before .before .before .before .before .before .before .before .before .before .before .before .before .before .before .before .before .before .before .before .before .next-frame .ensures .1) in
-    let room = c .before .before .before .before .before .before .before .before .before .before .before .before .before .before .before .before .before .before .if1 .left in
-    let put = c .before .before .put-answer2 in (
-      search needs,
-      inside .1,
-      omega (arith, put .ensures .0 .1, put .ensures .1 .1),
-      put .ensures .1 .1 ∙ loop .inv .3,
-      turned (loop .book) (loop .tickets) input (loop .out) (loop .at) (loop .filled) (loop .left) size (c .before .before .before .before .before .before .before .before .before .before .before .before .before .before .before .before .aim-of .result) (slot .result) (outcome .result) _
-          (settled (c .before .before .before .before .none .result) (Answer.Step (c .before .before .before .before .before .before .before .before .outcome2 .given .0 .0)))
-          (outcome .last .0) _ (put .result) (put .last .0)
-          (c .before .before .before .before .before .before .before .before .before .before .before .before .before .before .before .before .before .before .before .before .before .before .before .loop-test .taken) whole room (loop .inv .0) (c .before .before .before .before .before .before .before .before .before .before .before .before .before .before .before .before .aim-of .ensures .0) (slot .ensures .0) (outcome .ensures .0)
-          (c .before .before .before .before .before .before .before .before .outcome2 .given .1)
-          (λ i. settled ((c .before .before .before .before .none .ensures ∙ gone-after ticket (c .before .before .before .before .before .before .before .before .outcome2 .given .0 .0) (sym (c .before .before .before .before .before .before .finishes .ensures) ∙ c .before .before .before .before .before .if2 .taken)) i) (Answer.Step (c .before .before .before .before .before .before .before .before .outcome2 .given .0 .0)))
-          refl
-          (put .ensures .0 .0) (put .ensures .1 .0)
-          ∙ loop .inv .4,
-      λ known. turned-well-made (loop .book) (loop .tickets) input (loop .out) (loop .at) (loop .filled) (loop .left) size (c .before .before .before .before .before .before .before .before .before .before .before .before .before .before .before .before .aim-of .result) (slot .result) (outcome .result) _
-          (settled (c .before .before .before .before .none .result) (Answer.Step (c .before .before .before .before .before .before .before .before .outcome2 .given .0 .0)))
-          (outcome .last .0) _ (each-byte input (λ place. omega (arith, c .before .before .before .before .before .before .before .before .before .before .before .before .before .before .before .before .before .before .before .before .before .before .before .before .before .before .before .shared-slice-known .given place))) (loop .inv .5 known) (slot .ensures .1) (outcome .ensures .0)
-          (c .before .before .before .before .before .before .before .before .outcome2 .given .1)
-          (λ i. settled ((c .before .before .before .before .none .ensures ∙ gone-after ticket (c .before .before .before .before .before .before .before .before .outcome2 .given .0 .0) (sym (c .before .before .before .before .before .before .finishes .ensures) ∙ c .before .before .before .before .before .if2 .taken)) i) (Answer.Step (c .before .before .before .before .before .before .before .before .outcome2 .given .0 .0)))
-          refl,
-    )
+    let turn = turn-of (c .before .before .before .before .before .before .before .before .before .before .before .before .before) in
+    turned turn (outcome .last .0) (outcome .ensures .0) (c .before .before .before .before .before .before .before .before .outcome3 .given .1) (steps (ticketIn turn) (c .before .before .before .before .before .before .before .before .outcome3 .given .0 .0) (c .before .before .before .before .none .ensures ∙ gone-after (ticketIn turn) (c .before .before .before .before .before .before .before .before .outcome3 .given .0 .0) (sym (c .before .before .before .before .before .before .finishes .ensures) ∙ c .before .before .before .before .before .if2 .taken))) refl (search needs) (c .before .before .put-step .ensures)
 
 after-requires : tie.Need-after-requires Inv-loop μ-loop
 after-requires c κs =
-    let loop = c .before .before .before .before .before .before .before .before .before .before .before .before .before .before .before .before .before .before .before .loop in
-    let input = now (c .before .before .before .before .before .before .before .before .before .before .before .before .before .before .before .before .before .before .before .before .before .before .before .before .args .input) in
-    let size = c .before .before .before .before .before .before .before .before .before .before .before .before .before .before .before .next .given .0 .0 in
-    let slot = c .before .before .before .before .before .before .before .before .before .before .slot-of in
-    let outcome = c .before .before .before .before .before .before .before .settle in
-    let ticket = ticketOf (loop .tickets) (slot .result) in (
-      sym (c .before .finishes .ensures) ∙ c .if2 .left,
-      subst (OutcomeKnown ticket (partAfterKind (frameAt input (loop .at) size))) (c .before .before .before .outcome2 .given .1) (outcome .ensures .1),
-    )
+    let turn = turn-of (c .before .before .before .before .before .before .before .before) in
+    (sym (c .before .finishes .ensures) ∙ c .if2 .left, subst (OutcomeKnown (ticketIn turn) (partIn turn)) (c .before .before .before .outcome3 .given .1) (c .before .before .before .before .before .before .before .settle .ensures .1))
 
 mul-after : tie.Need-mul-after Inv-loop μ-loop
 mul-after c = search needs
@@ -255,57 +226,31 @@ mul-after c = search needs
 element-set-from-after : tie.Need-element-set-from-after Inv-loop μ-loop
 element-set-from-after c = search needs
 
-put-answer-requires-3 : tie.Need-put-answer-requires-3 Inv-loop μ-loop
-put-answer-requires-3 c κs = search needs
+put-step-requires-2 : tie.Need-put-step-requires-2 Inv-loop μ-loop
+put-step-requires-2 c κs = search needs
 
-loop-less-3 : tie.Need-loop-less-3 Inv-loop μ-loop
-loop-less-3 c = omega (arith, c .before .before .before .before .before .before .before .before .before .before .before .before .before .before .before .before .before .before .before .before .before .before .before .loop-test .taken)
+loop-less-4 : tie.Need-loop-less-4 Inv-loop μ-loop
+loop-less-4 c = omega (arith, c .before .before .before .before .before .before .before .before .before .before .before .before .before .before .before .before .before .before .before .before .before .before .before .loop-test .taken)
 
-loop-again-3 : tie.Need-loop-again-3 Inv-loop μ-loop
-loop-again-3 c =
-    let loop = c .before .before .before .before .before .before .before .before .before .before .before .before .before .before .before .before .before .before .before .before .before .before .before .before .loop in
-    let input = now (c .before .before .before .before .before .before .before .before .before .before .before .before .before .before .before .before .before .before .before .before .before .before .before .before .before .before .before .before .before .args .input) in
-    let size = c .before .before .before .before .before .before .before .before .before .before .before .before .before .before .before .before .before .before .before .before .next .given .0 .0 in
-    let slot = c .before .before .before .before .before .before .before .before .before .before .before .before .before .before .before .slot-of in
+loop-again-4 : tie.Need-loop-again-4 Inv-loop μ-loop
+loop-again-4 c =
     let outcome = c .before .before .before .before .before .before .before .before .before .before .before .before .settle in
-    let ticket = ticketOf (loop .tickets) (slot .result) in
-    let whole = sym (c .before .before .before .before .before .before .before .before .before .before .before .before .before .before .before .before .before .before .before .before .before .before .next-frame .ensures .0) ∙ c .before .before .before .before .before .before .before .before .before .before .before .before .before .before .before .before .before .before .before .before .next .given .1 in
-    let inside = subst (NextInside input (loop .at)) (c .before .before .before .before .before .before .before .before .before .before .before .before .before .before .before .before .before .before .before .before .next .given .1) (c .before .before .before .before .before .before .before .before .before .before .before .before .before .before .before .before .before .before .before .before .before .before .next-frame .ensures .1) in
-    let room = c .before .before .before .before .before .before .before .before .before .before .before .before .before .before .before .before .before .before .if1 .left in
-    let put = c .before .before .put-answer3 in (
-      search needs,
-      inside .1,
-      omega (arith, put .ensures .0 .1, put .ensures .1 .1),
-      put .ensures .1 .1 ∙ loop .inv .3,
-      turned (loop .book) (loop .tickets) input (loop .out) (loop .at) (loop .filled) (loop .left) size (c .before .before .before .before .before .before .before .before .before .before .before .before .before .before .before .before .aim-of .result) (slot .result) (outcome .result) _
-          (settled (c .before .before .before .before .after .result) (Answer.Step (c .before .before .before .before .before .before .before .before .outcome2 .given .0 .0)))
-          (outcome .last .0) _ (put .result) (put .last .0)
-          (c .before .before .before .before .before .before .before .before .before .before .before .before .before .before .before .before .before .before .before .before .before .before .before .loop-test .taken) whole room (loop .inv .0) (c .before .before .before .before .before .before .before .before .before .before .before .before .before .before .before .before .aim-of .ensures .0) (slot .ensures .0) (outcome .ensures .0)
-          (c .before .before .before .before .before .before .before .before .outcome2 .given .1)
-          (λ i. settled (c .before .before .before .before .after .ensures i) (Answer.Step (c .before .before .before .before .before .before .before .before .outcome2 .given .0 .0)))
-          refl
-          (put .ensures .0 .0) (put .ensures .1 .0)
-          ∙ loop .inv .4,
-      λ known. turned-well-made (loop .book) (loop .tickets) input (loop .out) (loop .at) (loop .filled) (loop .left) size (c .before .before .before .before .before .before .before .before .before .before .before .before .before .before .before .before .aim-of .result) (slot .result) (outcome .result) _
-          (settled (c .before .before .before .before .after .result) (Answer.Step (c .before .before .before .before .before .before .before .before .outcome2 .given .0 .0)))
-          (outcome .last .0) _ (each-byte input (λ place. omega (arith, c .before .before .before .before .before .before .before .before .before .before .before .before .before .before .before .before .before .before .before .before .before .before .before .before .before .before .before .shared-slice-known .given place))) (loop .inv .5 known) (slot .ensures .1) (outcome .ensures .0)
-          (c .before .before .before .before .before .before .before .before .outcome2 .given .1)
-          (λ i. settled (c .before .before .before .before .after .ensures i) (Answer.Step (c .before .before .before .before .before .before .before .before .outcome2 .given .0 .0)))
-          refl,
-    )
+    let turn = turn-of (c .before .before .before .before .before .before .before .before .before .before .before .before .before) in
+    turned turn (outcome .last .0) (outcome .ensures .0) (c .before .before .before .before .before .before .before .before .outcome3 .given .1) (steps (ticketIn turn) (c .before .before .before .before .before .before .before .before .outcome3 .given .0 .0) (c .before .before .before .before .after .ensures)) refl (search needs) (c .before .before .put-step2 .ensures)
 
-enum-known-outcome-3 : tie.Need-enum-known-outcome-3 Inv-loop μ-loop
-enum-known-outcome-3 c = search needs
+enum-known-outcome-4 : tie.Need-enum-known-outcome-4 Inv-loop μ-loop
+enum-known-outcome-4 c = search needs
 
-open-frame-requires : tie.Need-open-frame-requires Inv-loop μ-loop
-open-frame-requires c κs =
-    let loop = c .before .before .before .before .before .before .before .before .before .before .before .before .before .before .before .before .before .loop in
-    let input = now (c .before .before .before .before .before .before .before .before .before .before .before .before .before .before .before .before .before .before .before .before .before .before .args .input) in
-    let size = c .before .before .before .before .before .before .before .before .before .before .before .before .before .next .given .0 .0 in
-    let slot = c .before .before .before .before .before .before .before .before .slot-of in
-    let outcome = c .before .before .before .before .before .settle in
-    let ticket = ticketOf (loop .tickets) (slot .result) in
-    subst (OutcomeKnown ticket (partAfterKind (frameAt input (loop .at) size))) (c .before .outcome3 .given .1) (outcome .ensures .1)
+mul-whole : tie.Need-mul-whole Inv-loop μ-loop
+mul-whole c = search needs
+
+element-copy-out-whole : tie.Need-element-copy-out-whole Inv-loop μ-loop
+element-copy-out-whole c = search needs
+
+make-anew-requires : tie.Need-make-anew-requires Inv-loop μ-loop
+make-anew-requires c κs =
+    let turn = turn-of (c .before .before .before .before .before .before .before .before) in
+    (search needs, subst (OutcomeKnown (ticketIn turn) (partIn turn)) (c .before .before .before .outcome4 .given .1) (c .before .before .before .before .before .before .before .settle .ensures .1))
 
 mul-next : tie.Need-mul-next Inv-loop μ-loop
 mul-next c = search needs
@@ -313,44 +258,17 @@ mul-next c = search needs
 element-set-from-next : tie.Need-element-set-from-next Inv-loop μ-loop
 element-set-from-next c = search needs
 
-put-answer-requires-4 : tie.Need-put-answer-requires-4 Inv-loop μ-loop
-put-answer-requires-4 c κs = search needs
+put-answer-requires-3 : tie.Need-put-answer-requires-3 Inv-loop μ-loop
+put-answer-requires-3 c κs = search needs
 
-loop-less-4 : tie.Need-loop-less-4 Inv-loop μ-loop
-loop-less-4 c = omega (arith, c .before .before .before .before .before .before .before .before .before .before .before .before .before .before .before .before .before .before .before .before .before .before .loop-test .taken)
+loop-less-5 : tie.Need-loop-less-5 Inv-loop μ-loop
+loop-less-5 c = omega (arith, c .before .before .before .before .before .before .before .before .before .before .before .before .before .before .before .before .before .before .before .before .before .before .before .before .before .before .loop-test .taken)
 
-loop-again-4 : tie.Need-loop-again-4 Inv-loop μ-loop
-loop-again-4 c =
-    let loop = c .before .before .before .before .before .before .before .before .before .before .before .before .before .before .before .before .before .before .before .before .before .before .before .loop in
-    let input = now (c .before .before .before .before .before .before .before .before .before .before .before .before .before .before .before .before .before .before .before .before .before .before .before .before .before .before .before .before .args .input) in
-    let size = c .before .before .before .before .before .before .before .before .before .before .before .before .before .before .before .before .before .before .before .next .given .0 .0 in
-    let slot = c .before .before .before .before .before .before .before .before .before .before .before .before .before .before .slot-of in
-    let outcome = c .before .before .before .before .before .before .before .before .before .before .before .settle in
-    let ticket = ticketOf (loop .tickets) (slot .result) in
-    let whole = sym (c .before .before .before .before .before .before .before .before .before .before .before .before .before .before .before .before .before .before .before .before .before .next-frame .ensures .0) ∙ c .before .before .before .before .before .before .before .before .before .before .before .before .before .before .before .before .before .before .before .next .given .1 in
-    let inside = subst (NextInside input (loop .at)) (c .before .before .before .before .before .before .before .before .before .before .before .before .before .before .before .before .before .before .before .next .given .1) (c .before .before .before .before .before .before .before .before .before .before .before .before .before .before .before .before .before .before .before .before .before .next-frame .ensures .1) in
-    let room = c .before .before .before .before .before .before .before .before .before .before .before .before .before .before .before .before .before .if1 .left in
-    let put = c .before .before .put-answer4 in (
-      search needs,
-      inside .1,
-      omega (arith, put .ensures .0 .1, put .ensures .1 .1),
-      put .ensures .1 .1 ∙ loop .inv .3,
-      turned (loop .book) (loop .tickets) input (loop .out) (loop .at) (loop .filled) (loop .left) size (c .before .before .before .before .before .before .before .before .before .before .before .before .before .before .before .aim-of .result) (slot .result) (outcome .result) _
-          (c .before .before .before .before .before .open-frame .result)
-          (outcome .last .0) _ (put .result) (put .last .0)
-          (c .before .before .before .before .before .before .before .before .before .before .before .before .before .before .before .before .before .before .before .before .before .before .loop-test .taken) whole room (loop .inv .0) (c .before .before .before .before .before .before .before .before .before .before .before .before .before .before .before .aim-of .ensures .0) (slot .ensures .0) (outcome .ensures .0)
-          (c .before .before .before .before .before .before .before .outcome3 .given .1)
-          (c .before .before .before .before .before .open-frame .ensures)
-          refl
-          (put .ensures .0 .0) (put .ensures .1 .0)
-          ∙ loop .inv .4,
-      λ known. turned-well-made (loop .book) (loop .tickets) input (loop .out) (loop .at) (loop .filled) (loop .left) size (c .before .before .before .before .before .before .before .before .before .before .before .before .before .before .before .aim-of .result) (slot .result) (outcome .result) _
-          (c .before .before .before .before .before .open-frame .result)
-          (outcome .last .0) _ (each-byte input (λ place. omega (arith, c .before .before .before .before .before .before .before .before .before .before .before .before .before .before .before .before .before .before .before .before .before .before .before .before .before .before .shared-slice-known .given place))) (loop .inv .5 known) (slot .ensures .1) (outcome .ensures .0)
-          (c .before .before .before .before .before .before .before .outcome3 .given .1)
-          (c .before .before .before .before .before .open-frame .ensures)
-          refl,
-    )
+loop-again-5 : tie.Need-loop-again-5 Inv-loop μ-loop
+loop-again-5 c =
+    let outcome = c .before .before .before .before .before .before .before .before .before .before .before .before .before .before .before .settle in
+    let turn = turn-of (c .before .before .before .before .before .before .before .before .before .before .before .before .before .before .before .before) in
+    turned turn (outcome .last .0) (outcome .ensures .0) (c .before .before .before .before .before .before .before .before .before .before .before .outcome4 .given .1) (c .before .before .before .before .before .before .before .make-anew .ensures) refl (search needs) (c .before .before .put-answer3 .ensures)
 
 stopped-requires-3 : tie.Need-stopped-requires-3 Inv-loop μ-loop
 stopped-requires-3 c κs = search needs
@@ -408,26 +326,32 @@ answer-frames-spec =
     loop-less
     loop-again
     enum-known-outcome-2
+    put-answer-requires-2
+    loop-less-2
+    loop-again-2
+    enum-known-outcome-3
     finishes-requires
     none-requires
     mul-gone
     element-set-from-gone
-    put-answer-requires-2
-    loop-less-2
-    loop-again-2
+    put-step-requires
+    loop-less-3
+    loop-again-3
     after-requires
     mul-after
     element-set-from-after
-    put-answer-requires-3
-    loop-less-3
-    loop-again-3
-    enum-known-outcome-3
-    open-frame-requires
-    mul-next
-    element-set-from-next
-    put-answer-requires-4
+    put-step-requires-2
     loop-less-4
     loop-again-4
+    enum-known-outcome-4
+    mul-whole
+    element-copy-out-whole
+    make-anew-requires
+    mul-next
+    element-set-from-next
+    put-answer-requires-3
+    loop-less-5
+    loop-again-5
     stopped-requires-3
     same-length-5
     same-length-6

@@ -53,15 +53,16 @@ same-length-2 c = search needs
 
 returns-3 : tie.Need-returns-3
 returns-3 c =
-    let args = c .before .before .before .before .before .before .before .before .before .before .before .before .before .before .before .before .before .before .args in
-    let outcome = c .before .before .before .before .before .before .before .before .settle in
-    call-by (now (args .book)) (args .t2) (now (args .frame)) (now (args .out)) _ _ (c .before .before .before .before .before .settled-by .result) (outcome .last .0) _ _
-    (c .before .before .before .before .before .before .before .before .before .before .before .before .aim-of .ensures .0)
-    (c .before .before .before .before .before .before .before .before .before .before .before .slot-of .ensures .0)
-    ((λ i. (c .before .before .before .before .before .settled-by .ensures i, outcome .last .0)) ∙ outcome .ensures .0)
+    let args = c .before .before .before .before .before .before .before .before .before .before .before .before .before .before .before .before .before .before .before .before .before .args in
+    let outcome = c .before .before .before .before .before .before .before .before .before .before .before .settle in
+    let done = c .before .before .before .before .before .before .before .settled-by in
+    call-by (now (args .book)) (args .t2) (now (args .frame)) (now (args .out)) _ _ (done .result) (done .last .0) _ _
+    (c .before .before .before .before .before .before .before .before .before .before .before .before .before .before .before .aim-of .ensures .0)
+    (c .before .before .before .before .before .before .before .before .before .before .before .before .before .before .slot-of .ensures .0)
+    (done .ensures ∙ outcome .ensures .0)
     (c .before .before .write-answer .ensures .0)
-    (c .before .before .before .before .before .before .before .before .before .before .before .before .before .before .if1 .left)
-    (c .before .before .before .before .before .before .before .before .before .before .before .before .before .if2 .left)
+    (c .before .before .before .before .before .before .before .before .before .before .before .before .before .before .before .before .before .if1 .left)
+    (c .before .before .before .before .before .before .before .before .before .before .before .before .before .before .before .before .if2 .left)
 
 pub call-spec : {M : Type 1} → statement M
 call-spec =

@@ -1,8 +1,8 @@
 -- `book::look_at` meets its contract: a look at a word of the book, or refusal 10.
 use mathlib.Core.Path.{ap, _∙_}
 use denote.Ref.{now}
-use Rattle.frames.specs.declared.Answer.the-variants as Answer
-use Rattle.calls.specs.Way.{lookAnswer}
+use Rattle.calls.specs.declared.Outcome.the-variants as Outcome
+use Rattle.calls.specs.Way.{lookOutcome}
 use Rattle.book.proofs.Going.{look-shown, look-outside}
 use borrow.Author.Needs.{needs}
 use Rattle.book.proofs.look_at.Statement.{statement}
@@ -20,14 +20,14 @@ look-requires c κs = search needs
 returns : tie.Need-returns
 returns c =
     let book = now (c .before .before .before .before .before .args .book) in
-    (λ i. Answer.Look (c .look .ensures i))
+    (λ i. Outcome.Looked (c .look .ensures i))
     ∙ look-shown book (c .before .before .read16 .result) (c .before .if1 .taken)
-    ∙ ap (lookAnswer book) (c .before .before .read16 .ensures .0)
+    ∙ ap (lookOutcome book) (c .before .before .read16 .ensures .0)
 
 returns-2 : tie.Need-returns-2
 returns-2 c =
     let book = now (c .before .before .before .before .args .book) in
-    look-outside book (c .before .read16 .result) (c .if1 .left) ∙ ap (lookAnswer book) (c .before .read16 .ensures .0)
+    look-outside book (c .before .read16 .result) (c .if1 .left) ∙ ap (lookOutcome book) (c .before .read16 .ensures .0)
 
 pub look-at-spec : {M : Type 1} → statement M
 look-at-spec = tie.close (tie.spec read16-requires cast-if1 look-requires returns returns-2)

@@ -1,12 +1,13 @@
 -- `book::settle` meets its contract: a refusal, a look or a team's frame, each by its own function.
-use native.Mathlib.Omega.{arith}
 use mathlib.Core.Path.{sym, ap, subst, _∙_}
 use Prim.Native.Nat.{_<_}
 use denote.Ref.{now}
 use lib.ListN.{length}
 use Rattle.frames.specs.Numbers.{number16}
-use Rattle.calls.specs.Way.{AimKnown, settled, lookAnswer, lookSettled, outcomeSettled, OutcomeKnown, teamSettled, settledBy}
-use Rattle.book.proofs.Going.{team-inside}
+use Rattle.frames.specs.Requests.{partAfterKind}
+use Rattle.frames.specs.Fields.{FieldsOf}
+use Rattle.calls.specs.Way.{AimKnown, lookOutcome, outcomeSettled, OutcomeKnown, teamSettled, settledBy}
+use Rattle.book.proofs.Going.{team-inside, look-settles, look-known}
 use borrow.Author.Needs.{needs}
 use Rattle.book.proofs.settle.Statement.{statement}
 use Rattle.book.proofs.settle.Tie as tie
@@ -39,8 +40,9 @@ team-frame-requires c κs =
       record {
         book = start .pre .0;
         first = known .0 .first;
-        last = omega (arith, known .1);
-        fields = ap length (c .before .part-after-kind2 .ensures) ∙ known .0 .fields;
+        last = known .0 .last;
+        no-look = known .1;
+        fields = subst (FieldsOf (c .before .before .before .aim2 .given .0 .0)) (sym (c .before .part-after-kind2 .ensures)) (known .0 .fields);
         team-known = known .2;
       },
       start .pre .2,
@@ -56,12 +58,16 @@ same-length : tie.Need-same-length
 same-length c = search needs
 
 returns-2 : tie.Need-returns-2
-unfolding settledBy lookSettled
+unfolding settledBy
 returns-2 c =
-    let args = c .before .before .before .before .before .before .before .args in (
-      (λ i. (settled (args .ticket) ((c .look-at .ensures ∙ ap (λ l. lookAnswer (now (args .book)) (number16 l 0)) (c .before .before .part-after-kind .ensures)) i), now (args .book)))
-          ∙ ap (settledBy (now (args .book)) (args .ticket) (now (args .frame))) (sym (c .before .before .before .enum-told .given .1)),
-      tt,
+    let args = c .before .before .before .before .before .before .before .args in
+    let book = now (args .book) in
+    let part = partAfterKind (now (args .frame)) in
+    let shown = c .look-at .ensures ∙ ap (λ l. lookOutcome book (number16 l 0)) (c .before .before .part-after-kind .ensures) in (
+      ap (outcomeSettled book (args .ticket) part) shown
+          ∙ look-settles book (args .ticket) part (number16 part 0)
+          ∙ ap (settledBy book (args .ticket) (now (args .frame))) (sym (c .before .before .before .enum-told .given .1)),
+      subst (OutcomeKnown (args .ticket) part) (sym shown) (look-known book (args .ticket) part (number16 part 0)),
     )
 
 same-length-2 : tie.Need-same-length-2
@@ -73,7 +79,7 @@ returns-3 c =
     let args = c .before .before .before .before .before .before .before .before .before .before .args in
     let part = c .before .before .before .before .part-after-kind2 .ensures in
     let done = c .before .before .team-frame in (
-      (λ i. (outcomeSettled (args .ticket) (sym part i) (done .result), done .last .0))
+      (λ i. outcomeSettled (done .last .0) (args .ticket) (sym part i) (done .result))
           ∙ done .ensures .0
           ∙ ap (λ l. teamSettled (now (args .book)) (args .ticket) l (c .before .before .before .before .before .before .aim2 .given .0 .0) (c .before .before .before .before .before .before .aim2 .given .0 .1 .0)) part
           ∙ ap (settledBy (now (args .book)) (args .ticket) (now (args .frame))) (sym (c .before .before .before .before .before .before .aim2 .given .1)),

@@ -1,4 +1,4 @@
--- `frames::writing::write_answer` meets its contract: each arm writes the frame of its answer, which is at most 12 bytes long.
+-- `encoder::write_answer` meets its contract: each arm writes the frame of its answer, which is at most 52 bytes long.
 use mathlib.Core.Path.{sym, ap, _∙_}
 use denote.Ref.{now}
 use Rattle.frames.specs.Answers.{answerFrame, written}

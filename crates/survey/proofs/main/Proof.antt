@@ -6,6 +6,7 @@ use mathlib.Core.Path.{_≡_, refl, sym}
 use mathlib.Core.Bool.{true}
 use borrow.Author.Tests.{leb-true}
 use lib.Dec.{leb}
+use lib.ListN.{length-replicate}
 use Rattle.frames.specs.Fields.{longestFrame}
 use Rattle.frames.specs.Answers.{longestAnswer}
 use Rattle.survey.proofs.main.Statement.{statement}
@@ -24,8 +25,9 @@ slice-aggregate-serve-all c = search needs
 slice-aggregate-serve-all-2 : tie.Need-slice-aggregate-serve-all-2
 slice-aggregate-serve-all-2 c = search needs
 
+-- The output by the law: a search would count its bytes one by one.
 slice-aggregate-serve-all-3 : tie.Need-slice-aggregate-serve-all-3
-slice-aggregate-serve-all-3 c = search needs
+slice-aggregate-serve-all-3 c = sym (length-replicate {A = ℕ} _ 0)
 
 serve-all-requires : tie.Need-serve-all-requires
 serve-all-requires c κs =

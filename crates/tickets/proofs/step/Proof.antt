@@ -1,5 +1,4 @@
 -- `tickets::step` meets its contract: the swap that the ticket tries, once, and what it found settles the answer, which tells the ticket.
-use mathlib.Core.Path.{refl, sym, _∙_}
 use denote.Ref.{now}
 use Rattle.tickets.specs.Steps.{settled}
 use Rattle.tickets.proofs.After.{settled-told, told-step}
@@ -29,9 +28,9 @@ returns c =
     let swap = c .before .before .before .conditional-swap in
     let tried = c .before .before .before .before .before .before .swap-tried in
     let ticket = start .args .ticket in
-    let told = told-step ticket (settled ticket (swap .result)) (c .answer .result) (c .answer .ensures) (settled-told ticket (start .pre .1) (swap .result)) in (
+    let told = told-step ticket (settled ticket (swap .result)) (c .answer .result) (c .answer .ensures) (settled-told ticket (start .pre .1) (start .pre .2) (swap .result)) in (
       step-by (now (start .args .book)) ticket (start .args .team) (tried .result) (swap .result) (swap .last .0) _
-          (tried .ensures .0)
+          (tried .ensures .0 (now (start .args .book)))
           (swap .ensures .0)
           (swap .ensures .1)
           (told .0),

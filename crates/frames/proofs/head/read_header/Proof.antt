@@ -1,5 +1,6 @@
 -- `frames::head::read_header` meets its contract: the tests are made in the order of the refusals.
-use mathlib.Core.Path.{ap, _∙_}
+use mathlib.Core.Path.{sym, ap, _∙_}
+use borrow.Author.Tests.{not-true, not-false}
 use denote.Ref.{now}
 use Rattle.frames.specs.declared.Header.the-variants as Header
 use Rattle.frames.proofs.Headers.{too-short, too-long, other-count, not-torn, kind-below, kind-above, kind-known, other-length, length-due, header-torn, header-unknown, header-wrong, header-kind, whole}
@@ -44,23 +45,23 @@ returns-5 c = let frame = now (c .before .before .before .before .before .before
     let kind-field = c .before .before .read162 .ensures .0 in
     (header-unknown frame (not-torn frame (c .before .before .before .before .before .before .if1 .left) (c .before .before .before .before .before .if2 .left) (rw length-field at (c .before .before .before .if3 .left))) (kind-above frame (rw kind-field at (c .if5 .taken))), tt)
 
-length-of-kind-requires : tie.Need-length-of-kind-requires
-length-of-kind-requires c κs = search needs
+length-fits-requires : tie.Need-length-fits-requires
+length-fits-requires c κs = search needs
 
 returns-6 : tie.Need-returns-6
 returns-6 c = let frame = now (c .before .before .before .before .before .before .before .before .before .before .args .frame) in
     let length-field = c .before .before .before .before .before .before .read16 .ensures .0 in
     let kind-field = c .before .before .before .before .read162 .ensures .0 in
-    let due = c .before .length-of-kind .ensures in
-    (header-wrong frame (not-torn frame (c .before .before .before .before .before .before .before .before .if1 .left) (c .before .before .before .before .before .before .before .if2 .left) (rw length-field at (c .before .before .before .before .before .if3 .left))) (kind-known frame (rw kind-field at (c .before .before .before .if4 .left)) (rw kind-field at (c .before .before .if5 .left))) (other-length frame (rw (length-field, due, kind-field) at (c .if6 .taken))), tt)
+    let fits = sym (c .before .length-fits .ensures) in
+    (header-wrong frame (not-torn frame (c .before .before .before .before .before .before .before .before .if1 .left) (c .before .before .before .before .before .before .before .if2 .left) (rw length-field at (c .before .before .before .before .before .if3 .left))) (kind-known frame (rw kind-field at (c .before .before .before .if4 .left)) (rw kind-field at (c .before .before .if5 .left))) (other-length frame (rw (length-field, kind-field) at (fits ∙ not-true _ (c .if6 .taken)))), tt)
 
 returns-7 : tie.Need-returns-7
 returns-7 c = let frame = now (c .before .before .before .before .before .before .before .before .before .before .args .frame) in
     let length-field = c .before .before .before .before .before .before .read16 .ensures .0 in
     let kind-field = c .before .before .before .before .read162 .ensures .0 in
-    let due = c .before .length-of-kind .ensures in (
-      ap Header.Kind kind-field ∙ header-kind frame (not-torn frame (c .before .before .before .before .before .before .before .before .if1 .left) (c .before .before .before .before .before .before .before .if2 .left) (rw length-field at (c .before .before .before .before .before .if3 .left))) (kind-known frame (rw kind-field at (c .before .before .before .if4 .left)) (rw kind-field at (c .before .before .if5 .left))) (length-due frame (rw (length-field, due, kind-field) at (c .if6 .left))),
-      whole frame _ _ (c .before .before .before .if4 .left) (c .before .before .if5 .left) (c .before .before .before .before .before .before .before .before .if1 .left) (c .before .before .before .before .before .if3 .left) (c .if6 .left ∙ due),
+    let fits = sym (c .before .length-fits .ensures) ∙ not-false _ (c .if6 .left) in (
+      ap Header.Kind kind-field ∙ header-kind frame (not-torn frame (c .before .before .before .before .before .before .before .before .if1 .left) (c .before .before .before .before .before .before .before .if2 .left) (rw length-field at (c .before .before .before .before .before .if3 .left))) (kind-known frame (rw kind-field at (c .before .before .before .if4 .left)) (rw kind-field at (c .before .before .if5 .left))) (length-due frame (rw (length-field, kind-field) at fits)),
+      whole frame _ _ (c .before .before .before .if4 .left) (c .before .before .if5 .left) (c .before .before .before .before .before .before .before .before .if1 .left) (c .before .before .before .before .before .if3 .left) fits,
     )
 
 pub read-header-spec : {M : Type 1} → statement M
@@ -76,6 +77,6 @@ read-header-spec =
     read16-requires-2
     returns-4
     returns-5
-    length-of-kind-requires
+    length-fits-requires
     returns-6
     returns-7)

@@ -69,7 +69,7 @@ returns-5 : tie.Need-returns-5
 returns-5 c = c .give-back .ensures ∙ given-back-more (c .before .before .before .before .args .self) (subst (AnswerFits (c .before .before .before .before .args .self)) (c .before .before .answer5 .given .1) (c .before .before .before .before .pre .1)) ∙ ap (afterAnswer (c .before .before .before .before .args .self)) (sym (c .before .before .answer5 .given .1))
 
 returns-6 : tie.Need-returns-6
-returns-6 c = search needs
+returns-6 c = c .none .ensures ∙ ap (afterAnswer (c .before .before .before .before .args .self)) (sym (c .before .before .answer6 .given .1))
 
 returns-7 : tie.Need-returns-7
 returns-7 c = c .none2 .ensures ∙ ap (afterAnswer (c .before .before .before .before .args .self)) (sym (c .before .before .answer7 .given .1))

@@ -2,7 +2,7 @@
 use mathlib.Core.Path.{sym, _∙_}
 use borrow.Author.Tests.{lt-ltb, le-ltb}
 use Rattle.words.proofs.Tests.{next-test, failed-test, last-test}
-use Rattle.tickets.specs.declared.Phase.the-variants.{Claiming, Putting, GivingBack}
+use Rattle.tickets.specs.declared.Phase.the-variants.{Claiming, Putting, GivingBack, Viewing, Viewed}
 use Rattle.tickets.proofs.Made.{counts-of}
 use borrow.Author.Needs.{needs}
 use Rattle.tickets.proofs.Ticket.counts_well_made.Statement.{statement}
@@ -19,6 +19,12 @@ enum-told-3 c = search needs
 
 enum-told-4 : tie.Need-enum-told-4
 enum-told-4 c = search needs
+
+enum-told-5 : tie.Need-enum-told-5
+enum-told-5 c = search needs
+
+enum-told-6 : tie.Need-enum-told-6
+enum-told-6 c = search needs
 
 returns : tie.Need-returns
 returns c = search needs
@@ -42,6 +48,22 @@ returns-5 c =
     (counts-of (c .before .before .before .before .args .self) GivingBack (c .before .before .enum-told4 .given .1)
     ∙ failed-test _ _ (le-ltb _ _ (c .if1 .left)))
 
+returns-6 : tie.Need-returns-6
+returns-6 c = sym (counts-of (c .before .before .before .args .self) Viewing (c .before .enum-told5 .given .1))
+
+returns-7 : tie.Need-returns-7
+returns-7 c =
+    sym
+    (counts-of (c .before .before .before .before .before .args .self) Viewed (c .before .before .before .enum-told6 .given .1)
+    ∙ next-test _ _ (lt-ltb _ _ (c .before .if2 .taken))
+    ∙ last-test _)
+
+returns-8 : tie.Need-returns-8
+returns-8 c =
+    sym
+    (counts-of (c .before .before .before .before .args .self) Viewed (c .before .before .enum-told6 .given .1)
+    ∙ failed-test _ _ (le-ltb _ _ (c .if2 .left)))
+
 pub counts-well-made-spec : {M : Type 1} → statement M
 counts-well-made-spec =
     tie.close
@@ -50,8 +72,13 @@ counts-well-made-spec =
     enum-told-2
     enum-told-3
     enum-told-4
+    enum-told-5
+    enum-told-6
     returns
     returns-2
     returns-3
     returns-4
-    returns-5)
+    returns-5
+    returns-6
+    returns-7
+    returns-8)

@@ -1,9 +1,11 @@
--- `tickets::Ticket::swap_tried` meets its contract: each phase names its target, which a well-made ticket has; an empty slot is not well made.
+-- `tickets::Ticket::swap_tried` meets its contract: each phase names its target, which a well-made ticket has; an empty slot is not well made, and a view is not asked.
 use Prim.Native.Nat.{ℕ, _<_}
 use native.Mathlib.Omega.{arith}
-use mathlib.Core.Path.{sym, subst, _∙_}
+use mathlib.Core.Path.{sym, ap, subst, _∙_}
+use mathlib.Core.Bool.{false≢true}
 use Rattle.words.specs.Words.{wordsInBook}
 use Rattle.tickets.specs.declared.Phase.the-variants.{NoTicket, Claiming, Putting, GivingBack}
+use Rattle.tickets.specs.Tickets.{isView}
 use Rattle.tickets.specs.Steps.{tries}
 use Rattle.tickets.proofs.Made.{made, counts-in}
 use Rattle.tickets.proofs.Settled.{tried-in}
@@ -59,6 +61,18 @@ enum-told-4 c = search needs
 swap-of-requires-4 : tie.Need-swap-of-requires-4
 swap-of-requires-4 c κs = search needs
 
+enum-told-5 : tie.Need-enum-told-5
+enum-told-5 c = search needs
+
+swap-of-requires-5 : tie.Need-swap-of-requires-5
+swap-of-requires-5 c κs = search needs
+
+enum-told-6 : tie.Need-enum-told-6
+enum-told-6 c = search needs
+
+swap-of-requires-6 : tie.Need-swap-of-requires-6
+swap-of-requires-6 c κs = search needs
+
 returns : tie.Need-returns
 returns c =
     let ticket = c .before .before .before .before .before .args .self in
@@ -67,7 +81,7 @@ returns c =
     let target = c .before .target .ensures in
     let mark = c .before .before .before .before .mark .ensures in
     let tried = c .swap-of .ensures ∙ (λ i. tries (target i .word) (target i .quoted) (mark i)) in (
-      tried ∙ sym (tried-in ticket _ Claiming (c .before .before .enum-told .given .1)),
+      λ words. tried ∙ sym (tried-in words ticket _ Claiming (c .before .before .enum-told .given .1)),
       subst (λ (w : ℕ). w < wordsInBook) (λ i. sym tried i .word) (made ticket well .targets (ticket .claimed) counts .inside),
     )
 
@@ -79,7 +93,7 @@ returns-2 c =
     let target = c .before .target2 .ensures in
     let mark = c .before .before .before .before .mark .ensures in
     let tried = c .swap-of2 .ensures ∙ (λ i. tries (target i .word) (mark i) (target i .new)) in (
-      tried ∙ sym (tried-in ticket _ Putting (c .before .before .enum-told2 .given .1)),
+      λ words. tried ∙ sym (tried-in words ticket _ Putting (c .before .before .enum-told2 .given .1)),
       subst (λ (w : ℕ). w < wordsInBook) (λ i. sym tried i .word) (made ticket well .targets (ticket .done) counts .inside),
     )
 
@@ -91,12 +105,18 @@ returns-3 c =
     let target = c .before .target3 .ensures in
     let mark = c .before .before .before .before .mark .ensures in
     let tried = c .swap-of3 .ensures ∙ (λ i. tries (target i .word) (mark i) (target i .quoted)) in (
-      tried ∙ sym (tried-in ticket _ GivingBack (c .before .before .enum-told3 .given .1)),
+      λ words. tried ∙ sym (tried-in words ticket _ GivingBack (c .before .before .enum-told3 .given .1)),
       subst (λ (w : ℕ). w < wordsInBook) (λ i. sym tried i .word) (made ticket well .targets (ticket .done) (omega (arith, counts .0, counts .1)) .inside),
     )
 
 returns-4 : tie.Need-returns-4
 returns-4 c = absurd (counts-in (c .before .before .before .before .args .self) NoTicket (c .before .enum-told4 .given .1) (c .before .before .before .before .pre .0))
+
+returns-5 : tie.Need-returns-5
+returns-5 c = absurd (false≢true (sym (c .before .before .before .before .pre .1) ∙ ap isView (c .before .enum-told5 .given .1)))
+
+returns-6 : tie.Need-returns-6
+returns-6 c = absurd (false≢true (sym (c .before .before .before .before .pre .1) ∙ ap isView (c .before .enum-told6 .given .1)))
 
 pub swap-tried-spec : {M : Type 1} → statement M
 swap-tried-spec =
@@ -114,7 +134,13 @@ swap-tried-spec =
     swap-of-requires-3
     enum-told-4
     swap-of-requires-4
+    enum-told-5
+    swap-of-requires-5
+    enum-told-6
+    swap-of-requires-6
     returns
     returns-2
     returns-3
-    returns-4)
+    returns-4
+    returns-5
+    returns-6)

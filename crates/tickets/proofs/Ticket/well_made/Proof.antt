@@ -2,11 +2,11 @@
 use borrow.Author.Needs.{needs}
 use borrow.Author.Tests.{not-true, not-false}
 use native.Mathlib.Omega.{arith}
-use mathlib.Core.Path.{_≡_, refl, sym, ap, _∙_}
+use mathlib.Core.Path.{_≡_, sym, ap, _∙_}
 use mathlib.Core.Bool.{true, false, cond}
 use Prim.Native.Nat.{ℕ, _+_, _-_, _≤_, zero-le}
 use Rattle.tickets.specs.Tickets.{targetAt, targetsFrom, targetsIn, targetWellMade, allWellMade}
-use Rattle.tickets.proofs.Made.{peel, none-left, too-few, too-many, bad-target, by-counts}
+use Rattle.tickets.proofs.Made.{peel, none-left, too-few, too-many, bad-target, bad-counts, by-view}
 use Rattle.tickets.proofs.Ticket.well_made.Statement.{statement}
 use Rattle.tickets.proofs.Ticket.well_made.Tie as tie
 
@@ -74,13 +74,29 @@ counts-well-made-requires c κs = search needs
 
 returns-4 : tie.Need-returns-4 Inv-loop μ-loop
 returns-4 c =
-    let ticket = c .before .before .before .before .before .args .self in
-    c .counts-well-made .ensures
+    let at = c .before .before in
+    let ticket = at .before .before .before .before .args .self in
+    sym
+    (bad-counts ticket
+    (at .before .before .before .if1 .left)
+    (at .before .before .if2 .left)
+    (at .before .loop .inv .1 ∙ none-left ticket (ticket .n) (at .before .loop .k) (at .loop-test .left))
+    (sym (c .before .counts-well-made .ensures) ∙ not-true _ (c .if4 .taken)))
+
+view-well-made-requires : tie.Need-view-well-made-requires Inv-loop μ-loop
+view-well-made-requires c κs = c .before .before .before .before .if2 .left
+
+returns-5 : tie.Need-returns-5 Inv-loop μ-loop
+returns-5 c =
+    let at = c .before .before .before in
+    let ticket = at .before .before .before .before .args .self in
+    c .view-well-made .ensures
     ∙ sym
-    (by-counts ticket
-    (c .before .before .before .before .if1 .left)
-    (c .before .before .before .if2 .left)
-    (c .before .before .loop .inv .1 ∙ none-left ticket (ticket .n) (c .before .before .loop .k) (c .before .loop-test .left)))
+    (by-view ticket
+    (at .before .before .before .if1 .left)
+    (at .before .before .if2 .left)
+    (at .before .loop .inv .1 ∙ none-left ticket (ticket .n) (at .before .loop .k) (at .loop-test .left))
+    (sym (c .before .before .counts-well-made .ensures) ∙ not-false _ (c .before .if4 .left)))
 
 pub well-made-spec : {M : Type 1} → statement M
 well-made-spec =
@@ -99,4 +115,6 @@ well-made-spec =
     loop-less
     loop-again
     counts-well-made-requires
-    returns-4)
+    returns-4
+    view-well-made-requires
+    returns-5)

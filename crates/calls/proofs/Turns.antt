@@ -1,0 +1,223 @@
+-- The invariant of a run, and what a step of a team's ticket, of an edit or of a view, makes of it.
+use mathlib.Core.Path.{_≡_, refl, sym, ap, subst, _∙_}
+use mathlib.Core.Bool.{true, cond}
+use mathlib.Core.List.{List, [], _∷_, _++_, map}
+use mathlib.Core.Logic.{_≢_}
+use mathlib.Core.Option.{Option, none, some}
+use Prim.Native.Nat.{ℕ, _+_, _<_, min}
+use native.Mathlib.Omega.{arith}
+use native.Mathlib.Decide.{ℕ-discrete}
+use lib.ListN.{length}
+use borrow.Author.Tests.{eq-eqb, ne-eqb}
+use Rattle.words.specs.Words.{Words, wordsInBook, teamCount}
+use Rattle.tickets.specs.declared.Phase.{Phase}
+use Rattle.tickets.specs.declared.Ticket.{Ticket}
+use Rattle.tickets.specs.declared.Stepped.{Stepped}
+use Rattle.tickets.specs.declared.StepAnswer.{StepAnswer}
+use Rattle.tickets.specs.Tickets.{noTicket, ticketOf, withTicket, wordsIn, claims}
+use Rattle.tickets.specs.Steps.{mostTries, oneMoreTry, advanced, stepOf}
+use Rattle.tickets.specs.Invariant.{withSlot, FitTicket, Invariant, Leaves}
+use Rattle.tickets.proofs.TargetLists.{targets-advanced}
+use Rattle.tickets.proofs.Slots.{table-slots}
+use Rattle.tickets.proofs.Keeping.{standing-fit}
+use Rattle.tickets.proofs.Stepping.{length-kept}
+use Rattle.tickets.proofs.Tries.{tries-stop}
+use Rattle.frames.specs.Request.{Step}
+use Rattle.frames.specs.declared.Answer.the-variants as Answer
+use Rattle.plain.specs.Plain.{Plain, wordOf}
+use Rattle.calls.specs.Run.{Shared}
+use Rattle.calls.specs.Order.{Event, Asked, countAsked, Noted, Ended, Notes, notes, retold, noteTicket, withClaimed, withStep, hearAllClaimed, hearClaimed, hearStepAnswer, hearStep, hearRequest}
+use Rattle.calls.specs.Linearizable.{play, EndedRight, TriesRight, Every}
+use Rattle.calls.specs.Demand1.{TableFits}
+use Rattle.calls.proofs.Orders.{every-last}
+use Rattle.calls.proofs.Ordered.{Ordered, PlaceKept, GoesOn, order-stays, place-stays, order-grows}
+use Rattle.calls.proofs.Tied.{UpTo, KnownAs, Known, Tied, known-stands, known-count}
+
+-- The place of a team's ticket, if it is a view that has one.
+abbrev pub placeIn : Option Noted → Option (List Event)
+placeIn none = none
+placeIn (some noted) = noted .place
+
+-- At all times: the book is whole; words, tickets and the plain book of the order agree; what was heard is tied to the tickets; the order is
+-- right; the places reserved in it are those of views; and the tickets that ended are as they should be.
+pub record Good (shared : Shared) (n : Notes) : Type 0 where
+  pub whole : length (shared .book) ≡ wordsInBook
+  pub agree : Invariant (shared .book) (ticketOf (shared .tickets)) (wordOf (play (n .order)))
+  pub tied : (team : ℕ) → Tied (ticketOf (shared .tickets) team) (n .tickets team)
+  pub ordered : Ordered (n .order)
+  pub places : (team : ℕ) → PlaceKept team (n .order) (placeIn (n .tickets team))
+  pub ends : Every EndedRight (n .ended)
+  pub tries : Every TriesRight (n .ended)
+  pub in-turn : n .outOfTurn ≡ 0
+
+-- What was heard of a ticket that was opened for this.
+abbrev pub asking : Asked → Noted → Noted
+asking asked t = record {
+  asked = asked;
+  claimed = t .claimed;
+  released = t .released;
+  steps = t .steps;
+  waits = t .waits;
+  found = t .found;
+  decisions = t .decisions;
+  place = t .place;
+}
+
+-- One team's ticket is another, and another is noted.
+module _ (shared : Shared) (n : Notes) (table : TableFits (shared .tickets)) (good : Good shared n) (team : ℕ) (inside : team < teamCount) where
+  slots : (ticket : Ticket) → ticketOf (withTicket (shared .tickets) team ticket) ≡ withSlot (ticketOf (shared .tickets)) team ticket
+  slots ticket = table-slots (shared .tickets) team ticket (omega (arith, table .teams))
+
+  retied : (ticket : Ticket) (note : Option Noted) → Tied ticket note
+      → (other : ℕ) → Tied (withSlot (ticketOf (shared .tickets)) team ticket other) (retold (n .tickets) team note other)
+  retied ticket note mine other = elim (ℕ-discrete other team) [
+    | yes same ↦ rw (eq-eqb other team same) mine
+    | no differs ↦ rw (ne-eqb other team differs) (good .tied other)
+  ]
+
+  replaced : (order : List Event) (note : Option Noted) → GoesOn team (n .order) order (placeIn note) → (other : ℕ) → PlaceKept other order (placeIn (retold (n .tickets) team note other))
+  replaced order note onward other = elim (ℕ-discrete other team) [
+    | yes same ↦ rw (eq-eqb other team same) (subst (λ team. PlaceKept team order (placeIn note)) (sym same) (onward .own))
+    | no differs ↦ rw (ne-eqb other team differs) (stays differs (placeIn (n .tickets other)) (good .places other))
+  ]
+    where
+      stays : other ≢ team → (place : Option (List Event)) → PlaceKept other (n .order) place → PlaceKept other order place
+      stays differs none kept = tt
+      stays differs (some before) kept = onward .others other differs (length before) (play before) kept
+
+  pub goes-on : (book : Words) (ticket : Ticket) (order : List Event) (note : Option Noted) (ended : List Ended)
+      → length book ≡ wordsInBook
+      → Invariant book (withSlot (ticketOf (shared .tickets)) team ticket) (wordOf (play order))
+      → Tied ticket note → GoesOn team (n .order) order (placeIn note) → Every EndedRight ended → Every TriesRight ended
+      → Good record { book = book; tickets = withTicket (shared .tickets) team ticket } (notes order (retold (n .tickets) team note) ended (n .outOfTurn))
+  goes-on book ticket order note ended whole agree mine onward ends tries = record {
+    whole = whole;
+    agree = subst (λ tickets. Invariant book tickets (wordOf (play order))) (sym (slots ticket)) agree;
+    tied = λ other. subst (λ tickets. Tied (tickets other) (retold (n .tickets) team note other)) (sym (slots ticket)) (retied ticket note mine other);
+    ordered = onward .ordered;
+    places = replaced order note onward;
+    ends = ends;
+    tries = tries;
+    in-turn = good .in-turn;
+  }
+
+-- A step of a team with a ticket, of which this was heard.
+pub record Turn (noted : Noted) : Type 0 where
+  pub shared : Shared
+  pub n : Notes
+  pub table : TableFits (shared .tickets)
+  pub good : Good shared n
+  pub team : ℕ
+  pub inside : team < teamCount
+  pub is : n .tickets team ≡ some noted
+  pub known : Known (ticketOf (shared .tickets) team) noted
+
+-- For an edit and a view alike:
+module _ {noted : Noted} (turn : Turn noted) where
+  abbrev shared : Shared
+  shared = turn .shared
+
+  abbrev n : Notes
+  n = turn .n
+
+  abbrev good : Good shared n
+  good = turn .good
+
+  abbrev team : ℕ
+  team = turn .team
+
+  abbrev ticket : Ticket
+  ticket = ticketOf (shared .tickets) team
+
+  abbrev plain : ℕ → ℕ
+  plain = wordOf (play (n .order))
+
+  abbrev known : Known ticket noted
+  known = turn .known
+
+  -- The step leaves a ticket and an answer, and the book that it leaves.
+  abbrev pub Left : Stepped → Type 0
+  Left step = Good record { book = stepOf (shared .book) ticket team .1; tickets = withTicket (shared .tickets) team (step .ticket) } (hearRequest n (Step team) (Answer.Step (step .answer)))
+
+  -- What the law of the step gives, and what is to be shown.
+  abbrev pub Leaving : (ℕ → ℕ) → Ticket → StepAnswer → Type 0
+  Leaving after left answer = Leaves (shared .book) (ticketOf (shared .tickets)) team after left answer
+
+  abbrev pub Kept : Type 0
+  Kept = Left (stepOf (shared .book) ticket team .0)
+
+  abbrev now : Noted
+  now = withStep noted
+
+  -- Where the plain book stays, so does what the law of the step gives.
+  pub still : {after : Ticket} {answer : StepAnswer} {book : Plain} → book ≡ play (n .order) → Leaving plain after answer → Leaving (wordOf book) after answer
+  still {after} {answer} same left = subst (λ book. Leaving (wordOf book) after answer) (sym same) left
+
+  -- What is known of the book, the ticket, the order and what was heard is known after the step.
+  pub left-as : {after : Ticket} {answer : StepAnswer} (order : List Event) (note : Option Noted) (ended : List Ended)
+      → Leaving (wordOf (play order)) after answer
+      → hearStepAnswer n team now answer ≡ notes order (retold (n .tickets) team note) ended (n .outOfTurn)
+      → Tied after note → GoesOn team (n .order) order (placeIn note) → Every EndedRight ended → Every TriesRight ended
+      → Kept
+  left-as {after} {answer} order note ended left heard mine onward ends tries =
+      subst Left (sym (left .is))
+      (subst (Good record { book = stepOf (shared .book) ticket team .1; tickets = withTicket (shared .tickets) team after })
+      (sym (ap (λ note. hearStep n team note answer) (turn .is) ∙ heard))
+      (goes-on shared n (turn .table) good team (turn .inside) (stepOf (shared .book) ticket team .1) after order note ended (length-kept (shared .book) ticket team ∙ good .whole) (left .keeps) mine onward ends tries))
+
+  -- The ticket is fit.
+  pub fit : FitTicket (length (shared .book)) ticket
+  fit = standing-fit (length (shared .book)) ticket (good .agree .fit team) (known-stands known)
+
+  -- One try more.
+  pub spent : oneMoreTry (ticket .tries) ≡ min (now .steps) mostTries
+  spent = tries-stop (ticket .tries) (noted .steps) (known .spent)
+
+  -- Nothing is released while it claims.
+  pub none-released : claims (ticket .phase) ≡ true → UpTo 0 (noted .released)
+  none-released claiming = subst (λ many. UpTo many (noted .released)) (fit .none-done claiming) (known .released)
+
+  -- Its place, in the order as it is and with one more event.
+  pub my-place : PlaceKept team (n .order) (noted .place)
+  my-place = subst (λ note. PlaceKept team (n .order) (placeIn note)) (turn .is) (good .places team)
+
+  pub grown : (event : Event) → Ordered (n .order ++ (event ∷ [])) → GoesOn team (n .order) (n .order ++ (event ∷ [])) (noted .place)
+  grown event ordered = order-grows (n .order) event ordered (place-stays team (n .order) event (noted .place) my-place)
+
+  -- The order stays, and the ticket goes on;
+  pub stays-as : {after : Ticket} {answer : StepAnswer} (next : Noted) → Leaving plain after answer → hearStepAnswer n team now answer ≡ noteTicket n team next
+      → PlaceKept team (n .order) (next .place) → Known after next → Kept
+  stays-as next left heard mine next-known =
+      left-as (n .order) (some next) (n .ended) left heard next-known (order-stays (good .ordered) mine) (good .ends) (good .tries)
+
+  -- or it is gone.
+  pub ends-as : {answer : StepAnswer} (order : List Event) (end : Ended) → Leaving (wordOf (play order)) noTicket answer
+      → hearStepAnswer n team now answer ≡ notes order (retold (n .tickets) team none) (n .ended ++ (end ∷ [])) (n .outOfTurn)
+      → GoesOn team (n .order) order none → EndedRight end → TriesRight end → Kept
+  ends-as order end left heard onward right tries =
+      left-as order none (n .ended ++ (end ∷ [])) left heard refl onward
+      (every-last EndedRight (n .ended) end (good .ends) right) (every-last TriesRight (n .ended) end (good .tries) tries)
+
+  -- The ticket goes on with the same words and one try more, and what was heard of it with one step more.
+  pub advances : (base : Ticket) → wordsIn base ≡ wordsIn ticket → base .tries ≡ ticket .tries → {phase : Phase} {claimed done : ℕ} (after : Noted) → after .steps ≡ now .steps
+      → UpTo claimed (after .claimed) → UpTo done (after .released) → KnownAs (noted .asked) (advanced base phase claimed done) (asking (noted .asked) after)
+      → Known (advanced base phase claimed done) (asking (noted .asked) after)
+  advances base same-words same-tries {phase} {claimed} {done} after one-more taken let-go rest = record {
+    words = ap (map (λ one. one .word)) (targets-advanced base phase claimed done) ∙ same-words ∙ known .words;
+    spent = ap oneMoreTry same-tries ∙ spent ∙ ap (λ steps. min steps mostTries) (sym one-more);
+    claimed = taken;
+    released = let-go;
+    rest = rest;
+  }
+
+  -- What is heard of a claim: it is the last, or not.
+  pub heard-claim : ticket .claimed + 1 < ticket .n → hearClaimed n team now (ticket .claimed + 1) ≡ noteTicket n team (withClaimed (ticket .claimed + 1) now)
+  heard-claim more =
+      let count = known-count known in
+      ap (λ last. cond last (hearAllClaimed n team (withClaimed (ticket .claimed + 1) now) (noted .asked)) (noteTicket n team (withClaimed (ticket .claimed + 1) now)))
+      (ne-eqb (ticket .claimed + 1) (countAsked (noted .asked)) (λ same. omega arith))
+
+  pub heard-last : ticket .claimed + 1 ≡ ticket .n → hearClaimed n team now (ticket .claimed + 1) ≡ hearAllClaimed n team (withClaimed (ticket .claimed + 1) now) (noted .asked)
+  heard-last last =
+      ap (λ last. cond last (hearAllClaimed n team (withClaimed (ticket .claimed + 1) now) (noted .asked)) (noteTicket n team (withClaimed (ticket .claimed + 1) now)))
+      (eq-eqb (ticket .claimed + 1) (countAsked (noted .asked)) (last ∙ known-count known))
