@@ -7,6 +7,7 @@
 
 use crate::demand3::{Leg, Plain};
 use crate::layout::*;
+use crate::rounds::Order;
 use crate::streams::{Author, Prng};
 use std::collections::{BTreeMap, BTreeSet};
 
@@ -211,7 +212,7 @@ pub fn stored() -> Vec<u8> {
         for _ in 0..3 {
             author.contend(100 * seed as i64);
             cases.push(Case::of(words_of(author.book())));
-            author.finish_all();
+            author.finish_all(Order::Rising);
             let words = words_of(author.book());
             let mut rng = Prng::new(seed + author.frames as u64);
             cases.extend((0..6).map(|_| damaged(&mut rng, &words)));
@@ -240,7 +241,7 @@ mod tests {
         for seed in 1..=20 {
             let mut author = Author::new(seed);
             author.contend(400);
-            author.finish_all();
+            author.finish_all(Order::Rising);
             assert!(sound(author.book()), "seed {seed}");
         }
     }
@@ -249,7 +250,7 @@ mod tests {
     fn a_word_held_is_not_sound() {
         let mut author = Author::new(3);
         author.contend(200);
-        author.finish_all();
+        author.finish_all(Order::Rising);
         let mut book = author.book().to_vec();
         book[77] = Word::Marked(2);
         assert!(!sound(&book));

@@ -238,7 +238,7 @@ fn an_output_of_52_bytes_is_enough() {
 }
 
 /// Two passages with a leg each, two tickets that move them across.
-fn opposite_moves(p: i64, q: i64) -> Vec<u8> {
+pub fn opposite_moves(p: i64, q: i64) -> Vec<u8> {
     let mut frames = Vec::new();
     for (team, passage) in [(0, p), (1, q)] {
         let mut add = first_add(team);

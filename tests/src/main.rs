@@ -10,6 +10,7 @@ mod frames;
 mod layout;
 mod lent;
 mod model;
+mod rounds;
 mod serve;
 mod streams;
 mod tally;

@@ -4,6 +4,7 @@ use crate::demand3::{sweep, Plain, Watch};
 use crate::frames::{framed, split, Answer, Field, Field::*, Kind, Request, NAMED};
 use crate::layout::*;
 use crate::model::Desk;
+use crate::rounds::{self, Order, ORDERS};
 
 /// splitmix64.
 pub struct Prng(u64);
@@ -42,7 +43,7 @@ impl Prng {
     }
 
     /// Some different numbers of a range.
-    fn some(&mut self, count: i64, least: i64, greatest: i64) -> Vec<i64> {
+    pub fn some(&mut self, count: i64, least: i64, greatest: i64) -> Vec<i64> {
         let mut all: Vec<i64> = (least..=greatest).collect();
         (0..count).map(|_| all.swap_remove(self.below(all.len() as i64) as usize)).collect()
     }
@@ -375,11 +376,18 @@ impl Author {
     }
 
     /// Rounds of steps until no ticket stands.
-    pub fn finish_all(&mut self) {
-        while let Some(busy) = (0..TEAMS).find(|team| self.watch.is_busy(*team)) {
-            for team in (busy..TEAMS).filter(|team| self.watch.is_busy(*team)).collect::<Vec<_>>() {
-                self.say(&Request::step(team).bytes());
-            }
+    pub fn finish_all(&mut self, order: Order) {
+        let mut rng = Prng::new(self.frames as u64);
+        let course = rounds::run(&mut self.desk.clone(), &Desk::answer, order, &mut rng);
+        for team in course.expect("the model gets every ticket done").steps {
+            self.say(&Request::step(team).bytes());
+        }
+    }
+
+    /// Every team without a ticket opens one.
+    pub fn crowd(&mut self) {
+        for team in (0..TEAMS).filter(|team| !self.watch.is_busy(*team)).collect::<Vec<_>>() {
+            self.open(team);
         }
     }
 
@@ -577,6 +585,19 @@ impl Author {
 pub fn contention(seed: u64, frames: i64) -> Vec<u8> {
     let mut author = Author::new(seed);
     author.contend(frames);
+    author.sweep();
+    author.bytes
+}
+
+/// Contention again and again, each time until all tickets are done in rounds of one
+/// of the orders.
+pub fn in_rounds(seed: u64, frames: i64) -> Vec<u8> {
+    let mut author = Author::new(seed);
+    for order in ORDERS {
+        author.contend(frames / ORDERS.len() as i64);
+        author.crowd();
+        author.finish_all(order);
+    }
     author.sweep();
     author.bytes
 }

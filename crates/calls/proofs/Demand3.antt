@@ -131,7 +131,7 @@ calls-keep (framed frame out ∷ calls) bytes shared n table good =
     one-kept = subst (λ answer. Good (leftBy shared (framed frame out)) (hearAnswer n (framed frame out) answer)) (sym (answers-heard shared frame out table))
         (left-kept shared n table good frame out (bytes .0))
 
-run-good : (calls : List Call) → Every OfBytes calls → Good (run calls .end) (notesOn (heardOn calls))
+pub run-good : (calls : List Call) → Every OfBytes calls → Good (run calls .end) (notesOn (heardOn calls))
 run-good calls bytes = calls-keep calls bytes fresh noNotes fresh-table fresh-good
 
 pub demand3 : Demand3

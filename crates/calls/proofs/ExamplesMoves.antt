@@ -25,13 +25,13 @@ abbrev adding : ℕ → ℕ → ℕ → ℕ → Edit
 adding passage number newest count = Add (record { passage = passage; leg = number; newest = newest; count = count; stations = stations; measure = thatMeasure })
 
 -- Leg 1 from passage 0 to 1; leg 2 from passage 1 to 0.
-abbrev moveFirst : Edit
+abbrev pub moveFirst : Edit
 moveFirst = Move (record { passage = 0; into = 1; newer = 0; leg = 1; older = 0; count = 1; «into_newest» = 2; «into_count» = 1; stations = stations })
 
-abbrev moveSecond : Edit
+abbrev pub moveSecond : Edit
 moveSecond = Move (record { passage = 1; into = 0; newer = 0; leg = 2; older = 0; count = 1; «into_newest» = 1; «into_count» = 1; stations = stations })
 
-abbrev setting : List Request
+abbrev pub setting : List Request
 setting = (Open 0 (firstLeg 1 0 thatMeasure) ∷ steps 10 0) ++ (Open 1 (adding 1 2 0 0) ∷ steps 10 1)
 
 abbrev opposite : List Request

@@ -22,12 +22,12 @@ pub mod EditSteps
 pub mod ViewSteps
 pub mod Kept
 pub mod Demand3
-mod Computing
+pub mod Computing
 pub mod BenchTable
 mod RefusalExamples
-mod ExampleCalls
+pub mod ExampleCalls
 mod ExamplesWholeCase
 mod ExamplesContended
-mod ExamplesMoves
+pub mod ExamplesMoves
 mod ExamplesPieces
 mod ExamplesViews

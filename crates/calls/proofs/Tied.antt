@@ -24,6 +24,7 @@ use Rattle.tickets.proofs.TargetLists.{length-targets, target-listed}
 use Rattle.tickets.proofs.Keeping.{claims-counts, done-counts}
 use Rattle.edits.specs.declared.Edit.{Edit}
 use Rattle.edits.specs.Opened.{storedTargets}
+use Rattle.edits.specs.Views.{FineView}
 use Rattle.edits.proofs.Stored.{targets-counted}
 use Rattle.plain.specs.Plain.{wordOf}
 use Rattle.calls.specs.Order.{Verdict, granted, stale, Event, Asked, anEdit, aView, wordsAsked, countAsked, Decision, Noted, holdsTarget, holdsAmong, holdsWord}
@@ -131,6 +132,7 @@ ViewIn Viewed ticket noted = HeardViewed ticket noted
 
 -- What is known of a view: it is never decided; each step was a claim, a wait or a return.
 pub record KnownView (words : List ℕ) (ticket : Ticket) (noted : Noted) : Type 0 where
+  pub fine : FineView words
   pub names : namedIn ticket ≡ words
   pub undecided : Undecided noted
   pub swapped : noted .steps ≡ ticket .claimed + ticket .done + noted .waits

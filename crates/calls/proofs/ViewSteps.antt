@@ -77,6 +77,7 @@ module _ (words : List ℕ) (heard : Noted) (turn : Turn (asking (aView words) h
       → Known (advanced base phase claimed done) (asking (aView words) after)
   view-goes base same-words same-names same-tries {phase} {claimed} {done} after one-more taken let-go undecided swapped phase-heard =
       advances turn base same-words same-tries after one-more taken let-go record {
+        fine = known .rest .fine;
         names = ap (map (λ one. one .new)) (targets-advanced base phase claimed done) ∙ same-names ∙ known .rest .names;
         undecided = undecided;
         swapped = swapped;

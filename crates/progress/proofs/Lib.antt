@@ -1,0 +1,9 @@
+pub mod Chain
+pub mod Putting
+pub mod Measure
+pub mod Totals
+pub mod Turning
+pub mod Ending
+pub mod Done
+pub mod Existing
+mod Examples

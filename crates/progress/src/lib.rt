@@ -1,0 +1,1 @@
+// That waiting ends: definitions and theorems, no code.
