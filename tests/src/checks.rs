@@ -82,7 +82,7 @@ fn example_twelve() {
     asked(&mut desk, first_add(0));
     asked(&mut desk, first_add(1));
     assert_eq!(asked(&mut desk, Request::step(0)), Answer::Claimed(1));
-    assert_eq!(asked(&mut desk, Request::step(1)), Answer::Waiting(0));
+    assert_eq!(asked(&mut desk, Request::step(1)), Answer::Waiting(0, 0));
     let rest = [(); 9].map(|()| asked(&mut desk, Request::step(0)));
     assert_eq!(rest[8], Answer::Granted(10));
     assert_eq!(asked(&mut desk, Request::step(1)), Answer::Stale(0, 2), "12");
@@ -204,7 +204,7 @@ fn a_correction_lands_between_looks_but_not_in_a_view() {
     asked(&mut desk, Request::view(2, &[66, 65, 64]));
     (0..2).for_each(|_| drop(asked(&mut desk, Request::step(2))));
     asked(&mut desk, correct);
-    assert_eq!(asked(&mut desk, Request::step(1)), Answer::Waiting(65));
+    assert_eq!(asked(&mut desk, Request::step(1)), Answer::Waiting(65, 2));
     let rest = [(); 4].map(|()| asked(&mut desk, Request::step(2)));
     assert_eq!(rest[3], Answer::Seen(vec![old, 8_388_673, 0]));
     let last = [(); 4].map(|()| asked(&mut desk, Request::step(1)));
@@ -218,7 +218,7 @@ fn two_views_of_one_word() {
         assert_eq!(asked(&mut desk, Request::view(team, &[4_095])), Answer::Standing(1));
     }
     assert_eq!(asked(&mut desk, Request::step(4)), Answer::Claimed(1));
-    assert_eq!(asked(&mut desk, Request::step(5)), Answer::Waiting(4_095));
+    assert_eq!(asked(&mut desk, Request::step(5)), Answer::Waiting(4_095, 4));
     assert_eq!(asked(&mut desk, Request::look(4_095)), Answer::Held);
     assert_eq!(asked(&mut desk, Request::step(4)), Answer::Seen(vec![0]));
     assert_eq!(asked(&mut desk, Request::step(5)), Answer::Claimed(1));
@@ -310,7 +310,7 @@ fn planted(answer: Answer, which: usize) -> Option<Answer> {
         (Answer::Held, 6) => Some(Answer::Value(1 << 63)),
         (Answer::Found(word), 7) => Some(Answer::Found(word + 1)),
         (Answer::Claimed(5), 8) => Some(Answer::Found(0)),
-        (Answer::Waiting(_), 9) => Some(Answer::Refused(9)),
+        (Answer::Waiting(..), 9) => Some(Answer::Refused(9)),
         (Answer::Seen(values), 10) => {
             let rest = &values[1..];
             Some(Answer::Seen([&[values[0] + 1], rest].concat()))
@@ -322,6 +322,10 @@ fn planted(answer: Answer, which: usize) -> Option<Answer> {
         (Answer::Seen(values), 12) => Some(Answer::Returned(values.len() as i64)),
         (Answer::Seen(_), 13) => Some(Answer::Granted(2)),
         (Answer::Returned(_), 14) => Some(Answer::Seen(vec![0])),
+        (Answer::Waiting(word, team), 15) => Some(Answer::Waiting(word, (team + 1) % TEAMS)),
+        (Answer::Waiting(word, _), 16) => Some(Answer::Waiting(word, NOBODY)),
+        (Answer::Waiting(word, team), 17) => Some(Answer::Waiting(word + 1, team)),
+        (Answer::Claimed(_), 18) => Some(Answer::Waiting(0, 0)),
         _ => None,
     }
 }
@@ -339,7 +343,7 @@ fn demand_three_notices_planted_faults() {
     let input = streams::contention(3, 3_000);
     let right: Vec<Vec<u8>> = split(&survey(&input)).iter().map(|bytes| bytes.to_vec()).collect();
     let frames = split(&input);
-    for which in 0..15 {
+    for which in 0..19 {
         let fits = |bytes: &[u8]| planted(Answer::of_bytes(bytes)?, which);
         // A wait passed over is noticed by tries, which a view doesn't tell.
         let told = |i: &usize| which != 9 || is_of_edit(&frames, &right, *i);
@@ -359,9 +363,10 @@ fn demand_three_tells_wrong_programs_apart() {
     let input = streams::contention(4, 20_000);
     for (name, fault) in FAULTS {
         let noticed = check(&input, &answers(fault, &input)).is_err();
-        // "A step that says Waiting while the word is free: only demand 2's step
-        // rule stops it, as demand 3 holds for it." A Strike of f = r only waits.
-        let kept = [Fault::WaitingWhenFree, Fault::StrikesItself, Fault::Late].contains(&fault);
+        // A Strike of f = r only waits, for itself. "A step that says Waiting while
+        // the word is free: only demand 2's step rule stops it, as demand 3 holds for
+        // it", but it names a holder that the word hasn't.
+        let kept = [Fault::StrikesItself, Fault::Late, Fault::SixteenNamed].contains(&fault);
         assert_eq!(noticed, !kept, "{name}");
     }
 }
@@ -379,10 +384,71 @@ fn reading_is_the_inverse_of_writing() {
     }
 }
 
+const LENT: [&str; 2] =
+    [include_str!("../../crates/lent/stdout"), include_str!("../../crates/lent_views/stdout")];
+
 #[test]
 fn the_lent_cases_are_as_stored() {
-    lent::check(include_str!("../../crates/lent/stdout")).unwrap();
-    lent::check(include_str!("../../crates/lent_views/stdout")).unwrap();
+    LENT.iter().for_each(|text| drop(lent::check(text).unwrap()));
+}
+
+/// No stream has such a mark, but both edits and views are lent one.
+#[test]
+fn a_mark_of_sixteen_is_told_by_lent_calls() {
+    let wrong = |desk: &mut Desk, frame: &[u8]| wrong::answer(Fault::SixteenNamed, desk, frame);
+    for text in LENT {
+        let told = lent::told(text, &wrong).unwrap();
+        let sixteen =
+            told.lines().filter(|line| line.starts_with("= output 06 00 82 00 07 00 10 00"));
+        assert_eq!(sixteen.count(), 1);
+        assert!(lent::check(&told).is_err());
+    }
+    let input = streams::fuzz(5, 2_000);
+    assert_eq!(answers(Fault::SixteenNamed, &input), survey(&input));
+}
+
+/// "the team is the mark less 2^63 if that is below 16, else 65,535"
+#[test]
+fn waiting_names_the_holder() {
+    let mark = |above: u64| (1 << 63) + above;
+    let cases = [
+        (mark(0), 0),
+        (mark(9), 9),
+        (mark(15), 15),
+        (mark(16), 65_535),
+        (mark(65_535), 65_535),
+        (mark(65_536), 65_535),
+        (mark((1 << 32) + 3), 65_535),
+        (u64::MAX, 65_535),
+    ];
+    for opener in [first_add(5), Request::view(5, &[0])] {
+        for (bits, holder) in cases {
+            let mut desk = Desk::fresh();
+            asked(&mut desk, opener);
+            desk.book[0] = Word::of_bits(bits);
+            let answer = asked(&mut desk, Request::step(5));
+            assert_eq!(answer, Answer::Waiting(0, holder), "{bits}");
+            assert_eq!(desk.book[0].bits(), bits);
+            let bytes = [&[6, 0, 130, 0, 0, 0], &(holder as u16).to_le_bytes()[..]].concat();
+            assert_eq!((answer.bytes(), Answer::of_bytes(&bytes)), (bytes, Some(answer)));
+        }
+    }
+    assert_eq!(Answer::of_bytes(&[4, 0, 130, 0, 0, 0]), None, "the form without a team");
+}
+
+/// Three teams in a row, an edit, a view and an edit: each names the one before it.
+#[test]
+fn edits_and_views_wait_for_each_other() {
+    let mut desk = Desk::fresh();
+    asked(&mut desk, first_add(15));
+    asked(&mut desk, Request::step(15));
+    asked(&mut desk, Request::view(7, &[0, 50]));
+    assert_eq!(asked(&mut desk, Request::step(7)), Answer::Claimed(1));
+    assert_eq!(asked(&mut desk, Request::step(7)), Answer::Waiting(0, 15));
+    let mut add = first_add(3);
+    add.set(P, 25);
+    asked(&mut desk, add);
+    assert_eq!(asked(&mut desk, Request::step(3)), Answer::Waiting(50, 7));
 }
 
 #[test]

@@ -1,5 +1,5 @@
-//! "The plain book" and demand 3, from frames and answers alone: no book of
-//! words, no ticket of the model is used here.
+//! "The plain book" and demand 3, and whom Waiting names, from frames and answers
+//! alone: no book of words, no ticket of the model is used here.
 
 use crate::frames::{parse, split, Answer, Field::*, Kind, Request};
 use crate::layout::*;
@@ -273,6 +273,9 @@ impl Watch {
     }
 
     fn hear_step(&mut self, team: i64, answer: Answer) -> Verdict {
+        if let Answer::Waiting(word, holder) = answer {
+            self.hear_waiting(team, word, holder)?;
+        }
         let mut heard = self.teams.remove(&team).ok_or("a step without a ticket is answered")?;
         heard.steps += 1;
         let last = match heard.opener.kind {
@@ -283,6 +286,18 @@ impl Watch {
             self.teams.insert(team, heard);
         }
         Ok(())
+    }
+
+    /// "Who holds the word": Waiting names the ticket's next word, and the team that
+    /// holds it by what was heard. Nobody else can: all marks of a fresh book are
+    /// teams'.
+    fn hear_waiting(&self, team: i64, word: i64, named: i64) -> Verdict {
+        let next = self.teams.get(&team).and_then(|heard| heard.words.get(heard.holds.len()));
+        demand(next == Some(&word), || format!("a wait at word {word}, but {next:?} is next"))?;
+        let holder = self.holder(word);
+        demand(holder == Some(named), || {
+            format!("a wait for team {named} at word {word}, which is held by {holder:?}")
+        })
     }
 
     /// Takes one answer to a step of an edit; true if it was the ticket's last.
@@ -297,7 +312,7 @@ impl Watch {
                     self.decide(heard, true)?;
                 }
             }
-            Answer::Waiting(_) => heard.waits += 1,
+            Answer::Waiting(..) => heard.waits += 1,
             // "and as stale at Found"
             Answer::Found(word) => {
                 self.decide(heard, false)?;
@@ -337,7 +352,7 @@ impl Watch {
                     self.see(heard)?;
                 }
             }
-            Answer::Waiting(_) => heard.waits += 1,
+            Answer::Waiting(..) => heard.waits += 1,
             Answer::Returned(k) => heard.release(k)?,
             Answer::Seen(_) => {
                 // "and shows the plain book's words of that moment"

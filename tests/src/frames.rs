@@ -1,6 +1,6 @@
 //! "Frames": what a frame asks, what an answer says, and their bytes.
 
-use crate::layout::{Measure, LEGS, WORDS};
+use crate::layout::{Measure, LEGS, NOBODY, WORDS};
 use std::fmt;
 
 /// The named fields of all frames. `Distance`, `Compass`, `Clino` are M (of
@@ -322,7 +322,8 @@ pub fn split(stream: &[u8]) -> Vec<&[u8]> {
 pub enum Answer {
     Standing(i64),
     Claimed(i64),
-    Waiting(i64),
+    /// "Waiting becomes length 6 with word and team": the team that holds the word.
+    Waiting(i64, i64),
     Found(i64),
     Put(i64),
     Returned(i64),
@@ -341,7 +342,7 @@ impl Answer {
         match self {
             Answer::Standing(_) => 128,
             Answer::Claimed(_) => 129,
-            Answer::Waiting(_) => 130,
+            Answer::Waiting(..) => 130,
             Answer::Found(_) => 131,
             Answer::Put(_) => 132,
             Answer::Returned(_) => 133,
@@ -358,14 +359,14 @@ impl Answer {
         let short = |number: &i64| (*number as u16).to_le_bytes().to_vec();
         let tries = |number: &i64| (*number as u32).to_le_bytes().to_vec();
         let body = match self {
+            Answer::Waiting(word, team) => [short(word), short(team)].concat(),
             Answer::Granted(count) => tries(count),
             Answer::Stale(word, count) => [short(word), tries(count)].concat(),
             Answer::Value(bits) => bits.to_le_bytes().to_vec(),
             Answer::Seen(values) => values.iter().flat_map(|bits| bits.to_le_bytes()).collect(),
             Answer::Held => Vec::new(),
-            Answer::Standing(x) | Answer::Claimed(x) | Answer::Waiting(x) => short(x),
-            Answer::Found(x) | Answer::Put(x) | Answer::Returned(x) => short(x),
-            Answer::Refused(x) => short(x),
+            Answer::Standing(x) | Answer::Claimed(x) | Answer::Found(x) => short(x),
+            Answer::Put(x) | Answer::Returned(x) | Answer::Refused(x) => short(x),
         };
         framed(self.number(), &body)
     }
@@ -378,7 +379,7 @@ impl Answer {
         let answer = match number {
             128 => Answer::Standing(first),
             129 => Answer::Claimed(first),
-            130 => Answer::Waiting(first),
+            130 => Answer::Waiting(first, little(body.get(2..4)?)),
             131 => Answer::Found(first),
             132 => Answer::Put(first),
             133 => Answer::Returned(first),
@@ -419,7 +420,8 @@ impl fmt::Display for Answer {
         match self {
             Answer::Standing(n) => write!(f, "Standing, {n} targets"),
             Answer::Claimed(k) => write!(f, "Claimed {k}"),
-            Answer::Waiting(word) => write!(f, "Waiting at word {word}"),
+            Answer::Waiting(word, NOBODY) => write!(f, "Waiting at word {word}, no team's mark"),
+            Answer::Waiting(word, team) => write!(f, "Waiting at word {word} for team {team}"),
             Answer::Found(word) => write!(f, "Found, word {word} differs"),
             Answer::Put(k) => write!(f, "Put {k}"),
             Answer::Returned(k) => write!(f, "Returned {k}"),

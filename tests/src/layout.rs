@@ -9,6 +9,8 @@ pub const PASSAGES: i64 = 32;
 pub const LEGS: i64 = 1_344;
 /// "held by team t, 0 to 15".
 pub const TEAMS: i64 = 16;
+/// Named in place of a team where a mark is no team's: "else 65,535".
+pub const NOBODY: i64 = 65_535;
 
 /// "Passages carry a rank. For p = 0 to 31: ..."
 pub const RANKS: [i64; 32] = [
@@ -37,6 +39,16 @@ impl Word {
         match self {
             Word::Value(value) => value as u64,
             Word::Marked(team) => (1 << 63) + team as u64,
+        }
+    }
+
+    /// Of a word of 2^63 or more: "the team is the mark less 2^63 if that is below
+    /// 16, else 65,535".
+    pub fn holder(self) -> Option<i64> {
+        match self {
+            Word::Value(_) => None,
+            Word::Marked(team) if team < TEAMS => Some(team),
+            Word::Marked(_) => Some(NOBODY),
         }
     }
 }

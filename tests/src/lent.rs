@@ -15,7 +15,7 @@
 
 use crate::frames::hex;
 use crate::layout::{reading, Word};
-use crate::model::{Desk, Phase, Target, Ticket};
+use crate::model::{Answering, Desk, Phase, Target, Ticket};
 use crate::streams::of_hex;
 
 const PHASES: [(&str, Phase); 5] = [
@@ -61,10 +61,9 @@ fn ticket_line(team: i64, ticket: Option<&Ticket>) -> String {
 }
 
 /// What a call gives, line by line.
-fn call(desk: &mut Desk, length: usize, fill: u8, frame: &[u8]) -> Vec<String> {
+fn call(desk: &mut Desk, answering: Answering, mut output: Vec<u8>, frame: &[u8]) -> Vec<String> {
     let before = desk.clone();
-    let mut output = vec![fill; length];
-    let returned = desk.call(frame, &mut output);
+    let returned = desk.call_answered(answering, frame, &mut output);
     let shown = format!("= output {}", hex(&output));
     let mut lines = vec![format!("= returns {returned}"), shown.trim_end().to_string()];
     for (word, (old, new)) in before.book.iter().zip(&desk.book).enumerate() {
@@ -90,7 +89,7 @@ fn read(text: &str) -> Result<Vec<String>, String> {
     Ok(vec![line])
 }
 
-fn obey(desk: &mut Desk, line: &str) -> Result<Vec<String>, String> {
+fn obey(desk: &mut Desk, answering: Answering, line: &str) -> Result<Vec<String>, String> {
     let (verb, rest) = line.split_once(' ').unwrap_or((line, ""));
     match verb {
         "fresh" => *desk = Desk::fresh(),
@@ -106,7 +105,8 @@ fn obey(desk: &mut Desk, line: &str) -> Result<Vec<String>, String> {
         "call" => {
             let (lengths, frame) = rest.split_once(" :").ok_or("no frame")?;
             let [length, fill] = numbers(lengths)?[..] else { return Err(rest.to_string()) };
-            return Ok(call(desk, length as usize, fill as u8, &of_hex(frame)));
+            let output = vec![fill as u8; length as usize];
+            return Ok(call(desk, answering, output, &of_hex(frame)));
         }
         "read" => return read(rest),
         _ if line.is_empty() || line.starts_with('#') => {}
@@ -115,20 +115,20 @@ fn obey(desk: &mut Desk, line: &str) -> Result<Vec<String>, String> {
     Ok(Vec::new())
 }
 
-/// The text with what the model gives, in place of its lines that begin with `=`.
-pub fn told(text: &str) -> Result<String, String> {
+/// The text with what a program gives, in place of its lines that begin with `=`.
+pub fn told(text: &str, answering: Answering) -> Result<String, String> {
     let mut desk = Desk::fresh();
     let mut lines: Vec<String> = Vec::new();
     for line in text.lines().filter(|line| !line.starts_with('=')) {
         lines.push(line.to_string());
-        lines.extend(obey(&mut desk, line)?);
+        lines.extend(obey(&mut desk, answering, line)?);
     }
     Ok(lines.join("\n"))
 }
 
 /// Complains of the first line that the model has otherwise.
 pub fn check(text: &str) -> Result<String, String> {
-    let told = told(text)?;
+    let told = told(text, &Desk::answer)?;
     let (mut ours, mut theirs) = (told.lines(), text.lines());
     for number in 1.. {
         match (ours.next(), theirs.next()) {

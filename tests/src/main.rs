@@ -53,7 +53,7 @@ fn run(words: &[&str]) -> Result<String, String> {
         ["whole-case", path] => whole_case(path),
         ["stored", dir] => store(Path::new(dir)),
         ["stored", dir, "--check"] => check_stored(Path::new(dir)),
-        ["lent", file] => lent::told(&read_text(file)?),
+        ["lent", file] => lent::told(&read_text(file)?, &model::Desk::answer),
         ["lent", file, "--check"] => lent::check(&read_text(file)?),
         ["books", dir] => store_books(Path::new(dir)),
         ["books", dir, "--check"] => check_books(Path::new(dir)),

@@ -1,5 +1,6 @@
 //! The second model: "Edits", "Tickets and steps", "Frames refused, in checking
-//! order" and "The program survey", and of document 02 "Words seen together".
+//! order" and "The program survey", and of document 02 "Words seen together" and
+//! "Who holds the word".
 
 use crate::frames::{any_twice, next, parse, Answer, Field::*, Kind, Next, Request};
 use crate::layout::*;
@@ -181,6 +182,9 @@ pub struct Desk {
     pub tickets: BTreeMap<i64, Ticket>,
 }
 
+/// What a desk answers to a frame, or what a wrong program with that desk does.
+pub type Answering<'a> = &'a dyn Fn(&mut Desk, &[u8]) -> Answer;
+
 impl Desk {
     /// "a fresh book of 4,096 zero words", "Fresh: all empty, no ticket."
     pub fn fresh() -> Desk {
@@ -189,6 +193,11 @@ impl Desk {
 
     /// The call: what it returns; what it writes is in `output`.
     pub fn call(&mut self, frame: &[u8], output: &mut [u8]) -> i64 {
+        self.call_answered(&Desk::answer, frame, output)
+    }
+
+    /// The call of a program that may be wrong where neither 1 nor 2 applies.
+    pub fn call_answered(&mut self, answering: Answering, frame: &[u8], output: &mut [u8]) -> i64 {
         // "1. The book isn't 4,096 words long."
         if self.book.len() as i64 != WORDS {
             return 1;
@@ -199,7 +208,7 @@ impl Desk {
         }
         // "The call returns the bytes written; later bytes of the output keep
         // their contents."
-        let bytes = self.answer(frame).bytes();
+        let bytes = answering(self, frame).bytes();
         output[..bytes.len()].copy_from_slice(&bytes);
         bytes.len() as i64
     }
@@ -296,8 +305,8 @@ impl Desk {
             return Answer::Claimed(ticket.claimed);
         }
         // "If it is 2^63 or more nothing changes (Waiting)."
-        if let Word::Marked(_) = *word {
-            return Answer::Waiting(target.word);
+        if let Some(holder) = word.holder() {
+            return Answer::Waiting(target.word, holder);
         }
         // "Otherwise the ticket is stale: giving back, nothing done yet, if any
         // word is claimed (Found), else finished (Stale)."
@@ -347,8 +356,8 @@ impl Desk {
     fn note(&mut self, team: i64, ticket: &mut Ticket) -> Answer {
         let target = &mut ticket.targets[ticket.claimed as usize];
         let word = &mut self.book[target.word as usize];
-        if let Word::Marked(_) = *word {
-            return Answer::Waiting(target.word);
+        if let Some(holder) = word.holder() {
+            return Answer::Waiting(target.word, holder);
         }
         target.quoted = *word;
         *word = Word::Marked(team);

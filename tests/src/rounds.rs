@@ -3,7 +3,7 @@
 
 use crate::frames::{Answer, Request};
 use crate::layout::Word;
-use crate::model::{Desk, Phase};
+use crate::model::{Answering, Desk, Phase};
 use crate::streams::Prng;
 
 /// "in any order": how the teams of a round follow each other.
@@ -43,9 +43,6 @@ pub struct Course {
     pub bound: i64,
 }
 
-/// What a desk answers to a frame, or what a wrong program with that desk does.
-pub type Answering<'a> = &'a dyn Fn(&mut Desk, &[u8]) -> Answer;
-
 /// Steps in rounds until no ticket stands. Complains of a round in which all wait,
 /// and of tickets that stand after as many rounds as the paper allows.
 pub fn run(
@@ -78,7 +75,7 @@ pub fn run(
 
 /// Makes a team's step; true if it was answered Waiting.
 fn step_waits(desk: &mut Desk, answering: Answering, team: i64) -> bool {
-    matches!(answering(desk, &Request::step(team).bytes()), Answer::Waiting(_))
+    matches!(answering(desk, &Request::step(team).bytes()), Answer::Waiting(..))
 }
 
 /// The teams with a ticket as a round's order has them; where that leaves it
@@ -118,7 +115,7 @@ fn is_claiming(desk: &Desk, team: i64) -> bool {
 fn must_wait(desk: &Desk, team: i64) -> bool {
     let ticket = &desk.tickets[&team];
     let next = ticket.targets.get(ticket.claimed as usize).filter(|_| is_claiming(desk, team));
-    next.is_some_and(|target| matches!(desk.book[target.word as usize], Word::Marked(_)))
+    next.is_some_and(|target| desk.book[target.word as usize].holder().is_some())
 }
 
 fn words_held(desk: &Desk, team: i64) -> usize {

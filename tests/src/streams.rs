@@ -362,7 +362,7 @@ impl Author {
     fn steps(&mut self, team: i64) {
         for _ in 0..self.rng.between(1, self.site.burst) {
             let answer = self.say(&Request::step(team).bytes());
-            if matches!(answer, Answer::Waiting(_)) || !self.watch.is_busy(team) {
+            if matches!(answer, Answer::Waiting(..)) || !self.watch.is_busy(team) {
                 return;
             }
         }

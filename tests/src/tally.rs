@@ -1,6 +1,7 @@
 //! What came how often, and what must have come at all.
 
 use crate::frames::{parse, split, Answer, Field::*, Kind, Request};
+use crate::layout::TEAMS;
 use std::collections::BTreeMap;
 
 #[derive(Default)]
@@ -25,11 +26,12 @@ const ANSWERS: [&str; 20] = [
 
 /// What streams with contention must also have shown.
 #[rustfmt::skip]
-const OUTCOMES: [&str; 17] = [
+const OUTCOMES: [&str; 21] = [
     "granted Add", "granted Correct", "granted Move", "granted Strike of newest",
     "granted Strike of oldest", "granted Strike of middle", "granted Strike of only",
     "stale at once", "stale after Found", "granted after waits", "seen 1", "seen 2", "seen 3",
-    "seen 4", "seen 5", "seen 6", "seen after waits",
+    "seen 4", "seen 5", "seen 6", "seen after waits", "edit waits for edit",
+    "edit waits for view", "view waits for edit", "view waits for view",
 ];
 
 impl Tally {
@@ -66,7 +68,10 @@ impl Tally {
         let team = request.team();
         match (answer, open.get_mut(&team)) {
             (Answer::Standing(_), _) => drop(open.insert(team, (request, false, false))),
-            (Answer::Waiting(_), Some((_, waited, _))) => *waited = true,
+            (Answer::Waiting(_, holder), Some((_, waited, _))) => {
+                *waited = true;
+                self.count_wait(open, team, *holder);
+            }
             (Answer::Found(_), Some((_, _, found))) => *found = true,
             (Answer::Stale(..), Some((_, _, true))) => self.one_more("stale after Found"),
             (Answer::Stale(..), Some((_, _, false))) => self.one_more("stale at once"),
@@ -86,15 +91,27 @@ impl Tally {
         }
     }
 
-    fn missing<'a>(&self, names: &[&'a str]) -> Vec<&'a str> {
-        names.iter().copied().filter(|name| self.of(name) == 0).collect()
+    /// Who waits for whom.
+    fn count_wait(&mut self, open: &Open, team: i64, holder: i64) {
+        let ticket = |team: i64| match open.get(&team) {
+            Some((opener, ..)) if opener.kind == Kind::View => "view",
+            Some(_) => "edit",
+            None => "nothing",
+        };
+        self.one_more(&format!("{} waits for {}", ticket(team), ticket(holder)));
+        self.one_more(&wait_name(holder));
+    }
+
+    fn missing(&self, names: impl IntoIterator<Item = String>) -> Vec<String> {
+        names.into_iter().filter(|name| self.of(name) == 0).collect()
     }
 
     /// Complains of answers and refusals that never came.
     pub fn complete(&self, with_outcomes: bool) -> Result<(), String> {
-        let mut missing = self.missing(&ANSWERS);
+        let mut missing = self.missing(ANSWERS.map(str::to_string));
         if with_outcomes {
-            missing.extend(self.missing(&OUTCOMES));
+            missing.extend(self.missing(OUTCOMES.map(str::to_string)));
+            missing.extend(self.missing((0..TEAMS).map(wait_name)));
         }
         if missing.is_empty() {
             Ok(())
@@ -115,6 +132,10 @@ impl Tally {
         let counts = OUTCOMES.iter().map(|name| format!("{name} {}", self.of(name)));
         counts.collect::<Vec<_>>().join(", ")
     }
+}
+
+fn wait_name(holder: i64) -> String {
+    format!("wait for team {holder}")
 }
 
 fn granted_name(edit: &Request) -> String {

@@ -2,7 +2,7 @@
 //! so that the comparison can be seen to tell each apart.
 
 use crate::frames::{parse, Answer, Field::*, Kind, Request};
-use crate::layout::Word;
+use crate::layout::{Word, NOBODY};
 use crate::model::{listed_targets, targets_by, Desk, Phase, Ticket};
 
 #[derive(Clone, Copy, Debug, PartialEq, Eq)]
@@ -35,9 +35,15 @@ pub enum Fault {
     FirstValue,
     /// A view shows its values with the last word not given back.
     KeepsWord,
+    /// Waiting names the team that waits.
+    WaiterNamed,
+    /// Waiting names a team 16, which a mark of 2^63 + 16 would be.
+    SixteenNamed,
+    /// Waiting has team and word in each other's place.
+    WordTeamExchanged,
 }
 
-pub const FAULTS: [(&str, Fault); 14] = [
+pub const FAULTS: [(&str, Fault); 17] = [
     ("waiting-when-free", Fault::WaitingWhenFree),
     ("gives-back-new", Fault::GivesBackNew),
     ("listing-order", Fault::ListingOrder),
@@ -52,6 +58,9 @@ pub const FAULTS: [(&str, Fault); 14] = [
     ("claimed-order", Fault::ClaimedOrder),
     ("first-value", Fault::FirstValue),
     ("keeps-word", Fault::KeepsWord),
+    ("waiter-named", Fault::WaiterNamed),
+    ("sixteen-named", Fault::SixteenNamed),
+    ("word-team-exchanged", Fault::WordTeamExchanged),
 ];
 
 pub fn named(name: &str) -> Option<Fault> {
@@ -63,7 +72,8 @@ pub fn answer(fault: Fault, desk: &mut Desk, frame: &[u8]) -> Answer {
     let Ok(request) = parse(frame) else { return desk.answer(frame) };
     let team = request.team();
     let stepping = request.kind == Kind::Step;
-    if let (true, Some(ticket)) = (stepping, desk.tickets.get_mut(&team)) {
+    let own = desk.tickets.get_mut(&team).filter(|ticket| stepping && ticket.well_made());
+    if let Some(ticket) = own {
         if let Some(early) = before_step(fault, ticket, &desk.book) {
             return early;
         }
@@ -81,7 +91,16 @@ pub fn answer(fault: Fault, desk: &mut Desk, frame: &[u8]) -> Answer {
         (Fault::WordOrder, Answer::Standing(_), Some(ticket)) => {
             ticket.targets = targets_by(&request, |word| word);
         }
-        (Fault::UncountedWaits, Answer::Waiting(_), Some(ticket)) => ticket.tries -= 1,
+        (Fault::UncountedWaits, Answer::Waiting(..), Some(ticket)) => ticket.tries -= 1,
+        (Fault::WaiterNamed, Answer::Waiting(word, _), _) => return Answer::Waiting(*word, team),
+        (Fault::SixteenNamed, Answer::Waiting(word, _), _)
+            if desk.book[*word as usize] == Word::Marked(16) =>
+        {
+            return Answer::Waiting(*word, 16);
+        }
+        (Fault::WordTeamExchanged, Answer::Waiting(word, holder), _) => {
+            return Answer::Waiting(*holder, *word);
+        }
         (Fault::ShowsMark, Answer::Held, _) => {
             return Answer::Value(desk.book[request.get(Looked) as usize].bits());
         }
@@ -106,7 +125,7 @@ fn before_step(fault: Fault, ticket: &mut Ticket, book: &[Word]) -> Option<Answe
     match fault {
         Fault::WaitingWhenFree if ticket.tries == 1 && ticket.claimed == 1 => {
             ticket.tries += 1;
-            Some(Answer::Waiting(next.word))
+            Some(Answer::Waiting(next.word, NOBODY))
         }
         Fault::GivesBackNew if ticket.phase == Phase::GivingBack => {
             ticket.targets.iter_mut().for_each(|target| target.quoted = target.new);

@@ -47,6 +47,9 @@ fn wrong_programs_are_told_apart() {
     for fault in ["notes-mark", "notes-only", "claimed-order", "first-value", "keeps-word"] {
         told_apart(fault);
     }
+    for fault in ["waiter-named", "word-team-exchanged"] {
+        told_apart(fault);
+    }
 }
 
 #[test]

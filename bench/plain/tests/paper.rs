@@ -182,7 +182,7 @@ fn example_12() {
         [add(0, 0, 1, 0, 0), frame(&[128, 5])],
         [add(1, 0, 2, 0, 0), frame(&[128, 5])],
         [step(0), frame(&[129, 1])],
-        [step(1), frame(&[130, 0])],
+        [step(1), frame(&[130, 0, 0])],
         [step(0).repeat(9), through(0, 5)[1][12..].to_vec()],
         [step(1), stale(0, 2)],
     ]);
@@ -199,9 +199,9 @@ fn waits_are_tries() {
         // A move of leg 1 waits at its place, and is granted after the correction.
         [move_leg(4, 0, 1, [0, 1, 0, 1], [0, 0]), frame(&[128, 6])],
         [step(4).repeat(5), (1..=5).flat_map(claimed).collect()],
-        [step(4).repeat(2), frame(&[130, 65]).repeat(2)],
+        [step(4).repeat(2), frame(&[130, 65, 3]).repeat(2)],
         [step(3), claimed(2)],
-        [step(4), frame(&[130, 65])],
+        [step(4), frame(&[130, 65, 3])],
         [step(3), put(1)],
         [step(4), claimed(6)],
         [step(3), granted(4)],
@@ -319,14 +319,14 @@ fn views() {
         [step(4).repeat(2), [claimed(2), claimed(3)].concat()],
         // A correction waits for the view, and another view for the correction.
         [correct(5, 0, 1), frame(&[128, 2])],
-        [step(5), frame(&[130, 65])],
+        [step(5), frame(&[130, 65, 4])],
         [
             step(4).repeat(4),
             [claimed(4), returned(1), returned(2), returned(3)].concat(),
         ],
         [step(5), claimed(1)],
         [frame(&[7, 6, 1, 65]), frame(&[128, 1])],
-        [step(6), frame(&[130, 65])],
+        [step(6), frame(&[130, 65, 5])],
         [step(4), seen(&[MEASURE, 1, place(0), 0])],
         [step(4), refused(9)],
         [
@@ -355,7 +355,7 @@ fn opposite_moves_go_by_position() {
             [look(0), look(50), look(51)].concat(),
             [value(1), frame(&[137]), value(1)].concat(),
         ],
-        [step(1), frame(&[130, 50])],
+        [step(1), frame(&[130, 50, 0])],
         [step(0).repeat(11), through(0, 6)[1][12..].to_vec()],
         [step(1), stale(50, 2)],
         [

@@ -247,7 +247,7 @@ opened-head frame some = let left : length (partAfterKind frame) ≡ length fram
 -- A step that finishes leaves no ticket.
 pub gone-after : (ticket : Ticket) (answer : EditAnswer) → finishes answer ≡ true → noTicket ≡ afterAnswer ticket answer
 gone-after ticket (EditAnswer.Claimed many) ends = absurd (false≢true ends)
-gone-after ticket (EditAnswer.Waiting word) ends = absurd (false≢true ends)
+gone-after ticket (EditAnswer.Waiting word team) ends = absurd (false≢true ends)
 gone-after ticket (EditAnswer.Found word) ends = absurd (false≢true ends)
 gone-after ticket (EditAnswer.Put many) ends = absurd (false≢true ends)
 gone-after ticket (EditAnswer.Returned many) ends = absurd (false≢true ends)

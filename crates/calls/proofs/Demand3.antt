@@ -57,7 +57,7 @@ fresh-good = record {
 
 -- What a team holds, by its ticket and by what was heard.
 module _ (shared : Shared) (n : Notes) (good : Good shared n) (team word : ℕ) where
-  to-heard : (value : ℕ) → Holds (ticketOf (shared .tickets) team) word value → holdsWord (n .tickets team) word ≡ true
+  pub to-heard : (value : ℕ) → Holds (ticketOf (shared .tickets) team) word value → holdsWord (n .tickets team) word ≡ true
   to-heard value holds = by-note (n .tickets team) (good .tied team)
     where
       by-note : (note : Option Noted) → Tied (ticketOf (shared .tickets) team) note → holdsWord note word ≡ true
@@ -130,6 +130,15 @@ calls-keep (framed frame out ∷ calls) bytes shared n table good =
     one-kept : Good (leftBy shared (framed frame out)) (hearAnswer n (framed frame out) (answerHeard (heardOf shared (framed frame out))))
     one-kept = subst (λ answer. Good (leftBy shared (framed frame out)) (hearAnswer n (framed frame out) answer)) (sym (answers-heard shared frame out table))
         (left-kept shared n table good frame out (bytes .0))
+
+-- The table stays one as the code has it.
+tables-run : (calls : List Call) (shared : Shared) → TableFits (shared .tickets) → TableFits (runFrom shared calls .end .tickets)
+unfolding runFrom
+tables-run [] shared table = table
+tables-run (framed frame out ∷ calls) shared table = tables-run calls (leftBy shared (framed frame out)) (tables-stay (shared .book) (shared .tickets) frame out table)
+
+pub run-table : (calls : List Call) → TableFits (run calls .end .tickets)
+run-table calls = tables-run calls fresh fresh-table
 
 pub run-good : (calls : List Call) → Every OfBytes calls → Good (run calls .end) (notesOn (heardOn calls))
 run-good calls bytes = calls-keep calls bytes fresh noNotes fresh-table fresh-good

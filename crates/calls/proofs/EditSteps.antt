@@ -89,9 +89,9 @@ module _ (edit : Edit) (heard : Noted) (turn : Turn (asking (anEdit edit) heard)
         (up-to-more (ticket .claimed) (heard .claimed) (known .claimed)) (known .released)
         record { undecided = heard-claiming .undecided; swapped = omega (arith, heard-claiming .swapped) })
 
-    step-waits : Leaving turn plain (advanced ticket Claiming (ticket .claimed) (ticket .done)) (Waiting (targetAt ticket (ticket .claimed) .word))
+    step-waits : (holder : ℕ) → Leaving turn plain (advanced ticket Claiming (ticket .claimed) (ticket .done)) (Waiting (targetAt ticket (ticket .claimed) .word) holder)
         → Kept turn
-    step-waits left =
+    step-waits holder left =
         stays-as turn (withWait edited) left refl (my-place turn)
         (edit-goes (withWait edited) refl (known .claimed) (known .released)
         record { undecided = heard-claiming .undecided; swapped = omega (arith, heard-claiming .swapped) })
@@ -250,7 +250,7 @@ module _ (edit : Edit) (heard : Noted) (turn : Turn (asking (anEdit edit) heard)
   pub edit-kept : StepKept (turn .shared .book) (ticketOf (turn .shared .tickets)) plain team ticket → Kept turn
   edit-kept (claimed-one claiming more left) = step-claims claiming more left
   edit-kept (claimed-last claiming last matches left) = step-claims-last claiming last matches left
-  edit-kept (waiting claiming holder left) = step-waits claiming left
+  edit-kept (waiting claiming holder other left) = step-waits claiming _ left
   edit-kept (found-other claiming some-claimed differs left) = step-finds claiming differs left
   edit-kept (stale-at-once claiming none-claimed differs left) = step-fails claiming none-claimed differs left
   edit-kept (put-one putting more left) = step-puts putting left
@@ -259,6 +259,6 @@ module _ (edit : Edit) (heard : Noted) (turn : Turn (asking (anEdit edit) heard)
   edit-kept (returned-last giving last left) = step-returns-last giving left
   edit-kept (viewed-one viewing more value plain-is left) = absurd (heard-in Viewing viewing)
   edit-kept (viewed-last viewing last value matches left) = absurd (heard-in Viewing viewing)
-  edit-kept (view-waiting viewing holder left) = absurd (heard-in Viewing viewing)
+  edit-kept (view-waiting viewing holder other left) = absurd (heard-in Viewing viewing)
   edit-kept (view-returned-one viewed more left) = absurd (heard-in Viewed viewed)
   edit-kept (view-returned-last viewed last left) = absurd (heard-in Viewed viewed)

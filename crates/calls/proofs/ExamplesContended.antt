@@ -62,7 +62,7 @@ contended =
     ∷ steps 9 0 ++ (Look 0 ∷ Step 1 ∷ Step 1 ∷ []))
 
 contended-answers : answers contended
-    ≡ map some (Answer.Standing 5 ∷ Answer.Standing 5 ∷ Answer.Step (Claimed 1) ∷ Answer.Step (Waiting 0) ∷ Answer.Look Held ∷ Answer.Look (Value 0)
+    ≡ map some (Answer.Standing 5 ∷ Answer.Standing 5 ∷ Answer.Step (Claimed 1) ∷ Answer.Step (Waiting 0 0) ∷ Answer.Look Held ∷ Answer.Look (Value 0)
     ∷ Answer.Step (Claimed 2) ∷ Answer.Step (Claimed 3) ∷ Answer.Step (Claimed 4) ∷ Answer.Step (Claimed 5)
     ∷ Answer.Step (Put 1) ∷ Answer.Step (Put 2) ∷ Answer.Step (Put 3) ∷ Answer.Step (Put 4) ∷ Answer.Step (Granted 10)
     ∷ Answer.Look (Value 1) ∷ Answer.Step (Stale 0 2) ∷ Answer.Refused 9 ∷ [])

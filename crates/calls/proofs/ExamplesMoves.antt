@@ -40,9 +40,9 @@ opposite =
     ∷ steps 5 1 ++ (Step 0 ∷ steps 6 1) ++ (Step 0 ∷ Look 2 ∷ [])
 
 opposite-answers : drop 22 (answers (calls (setting ++ opposite)))
-    ≡ map some (Answer.Standing 6 ∷ Answer.Standing 6 ∷ Answer.Step (Claimed 1) ∷ Answer.Step (Waiting 0) ∷ Answer.Look Held ∷ Answer.Look (Value 2)
+    ≡ map some (Answer.Standing 6 ∷ Answer.Standing 6 ∷ Answer.Step (Claimed 1) ∷ Answer.Step (Waiting 0 1) ∷ Answer.Look Held ∷ Answer.Look (Value 2)
     ∷ Answer.Step (Claimed 2) ∷ Answer.Step (Claimed 3) ∷ Answer.Step (Claimed 4) ∷ Answer.Step (Claimed 5) ∷ Answer.Step (Claimed 6)
-    ∷ Answer.Step (Waiting 0)
+    ∷ Answer.Step (Waiting 0 1)
     ∷ Answer.Step (Put 1) ∷ Answer.Step (Put 2) ∷ Answer.Step (Put 3) ∷ Answer.Step (Put 4) ∷ Answer.Step (Put 5) ∷ Answer.Step (Granted 12)
     ∷ Answer.Step (Stale 0 3) ∷ Answer.Look (Value 0) ∷ [])
 unfolding everyRun

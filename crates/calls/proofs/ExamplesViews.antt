@@ -56,7 +56,7 @@ views =
     ++ (Look 66 ∷ Step 1 ∷ [])
 
 views-answers : drop 24 (answers (calls views))
-    ≡ map some (Answer.Standing 2 ∷ Answer.Step (Waiting 65) ∷ Answer.Step (Claimed 2) ∷ Answer.Step (Claimed 3) ∷ Answer.Step (Waiting 65)
+    ≡ map some (Answer.Standing 2 ∷ Answer.Step (Waiting 65 1) ∷ Answer.Step (Claimed 2) ∷ Answer.Step (Claimed 3) ∷ Answer.Step (Waiting 65 1)
     ∷ Answer.Step (Returned 1) ∷ Answer.Step (Returned 2) ∷ Answer.Step (Claimed 1) ∷ Answer.Step (Claimed 2) ∷ Answer.Step (Put 1) ∷ Answer.Step (Granted 6)
     ∷ Answer.Look (Value after)
     ∷ Answer.Step (Seen (record { n = 3; first = before; second = place; third = placeOf 1 stations; fourth = 0; fifth = 0; sixth = 0 })) ∷ [])

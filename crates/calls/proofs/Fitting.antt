@@ -5,19 +5,19 @@ use mathlib.Core.Bool.{Bool, true, false, cond, false≢true}
 use mathlib.Core.List.{List, [], _∷_, _++_, map}
 use mathlib.Core.Option.{Option, none, some}
 use native.Mathlib.Omega.{arith}
-use lib.Dec.{eqb, ltb}
+use lib.Dec.{eqb, ltb, lit<}
 use lib.ListN.{length, drop, replicate, length-map}
 use lib.Seq.{drop-at}
 use borrow.Author.Tests.{ltb-true, not-false, lt-ltb, leb-false}
 use Rattle.words.specs.Tests.{allHold, within}
-use Rattle.words.specs.Words.{Words, isHeld, mostTargets, readOf, teamCount}
+use Rattle.words.specs.Words.{Words, isHeld, nobody, holderOf, mostTargets, readOf, teamCount}
 use Rattle.words.proofs.Tests.{AllTrue, join}
 use Rattle.tickets.specs.declared.Target.{Target}
 use Rattle.tickets.specs.declared.Phase.the-variants.{Claiming, Putting, GivingBack, Viewing, Viewed}
 use Rattle.tickets.specs.declared.Ticket.{Ticket}
 use Rattle.tickets.specs.declared.Tickets.{Tickets}
 use Rattle.tickets.specs.declared.Stepped.{Stepped}
-use Rattle.tickets.specs.declared.StepAnswer.the-variants.{Stale, Seen}
+use Rattle.tickets.specs.declared.StepAnswer.the-variants.{Waiting, Stale, Seen}
 use Rattle.tickets.specs.declared.LookAnswer.the-variants.{Value, Held}
 use Rattle.tickets.specs.Tickets.{targetAt, targetsIn, padded, namedIn, ticketOf, hasTicket, targetWellMade, allWellMade, wellMade}
 use Rattle.tickets.specs.Steps.{mostTries, oneMoreTry, valueNoted, valuesFrom, valuesOf, valuesNamed, valuesSeen, settled, stepOf}
@@ -72,6 +72,15 @@ zeros-zero : (many : ℕ) → AllTrue (map (eqb 0) (replicate many 0))
 zeros-zero zero = tt
 zeros-zero (suc many) = (refl, zeros-zero many)
 
+-- The team that holds a word, or 65,535.
+holder-fits : (found : ℕ) → holderOf found < 65536
+holder-fits found = by (isHeld found) (ltb (found - 2 ^ 63) teamCount) refl
+  where
+    by : (held team : Bool) → ltb (found - 2 ^ 63) teamCount ≡ team → cond held (cond team (found - 2 ^ 63) nobody) nobody < 65536
+    by true true is = let below : found - 2 ^ 63 < teamCount = ltb-true _ _ is in omega arith
+    by true false is = lit< tt
+    by false team is = lit< tt
+
 -- A step of a well-made ticket: words are below 4,096, counts at most six, tries of 32 bits.
 module _ (ticket : Ticket) (well : wellMade ticket ≡ true) (tries : ticket .tries ≤ mostTries) where
   Fits : Stepped → Type 0
@@ -85,6 +94,9 @@ module _ (ticket : Ticket) (well : wellMade ticket ≡ true) (tries : ticket .tr
 
   tries-fit : ltb (oneMoreTry (ticket .tries)) 4294967296 ≡ true
   tries-fit = lt-ltb (oneMoreTry (ticket .tries)) 4294967296 (omega (arith, one-more-fits (ticket .tries) tries))
+
+  waiting-fits : (found k : ℕ) → k < ticket .n → stepAnswerFits (Waiting (targetAt ticket k .word) (holderOf found)) ≡ true
+  waiting-fits found k below = join (ltb (targetAt ticket k .word) 65536 ∷ ltb (holderOf found) 65536 ∷ []) (word-fits k below, (lt-ltb (holderOf found) 65536 (holder-fits found), tt))
 
   stale-fits : (k : ℕ) → k < ticket .n → stepAnswerFits (Stale (targetAt ticket k .word) (oneMoreTry (ticket .tries))) ≡ true
   stale-fits k below = join (ltb (targetAt ticket k .word) 65536 ∷ ltb (oneMoreTry (ticket .tries)) 4294967296 ∷ []) (word-fits k below, (tries-fit, tt))
@@ -108,7 +120,7 @@ module _ (ticket : Ticket) (well : wellMade ticket ≡ true) (tries : ticket .tr
       let below = counts-in ticket Claiming claiming well in
       subst Fits (sym settles) (count-fits (ticket .claimed + 1) (omega arith))
   settled-fits found (claims-last claiming same last settles) = subst Fits (sym settles) (count-fits (ticket .claimed + 1) (omega arith))
-  settled-fits found (waits claiming differs large settles) = subst Fits (sym settles) (word-fits (ticket .claimed) (counts-in ticket Claiming claiming well))
+  settled-fits found (waits claiming differs large settles) = subst Fits (sym settles) (waiting-fits found (ticket .claimed) (counts-in ticket Claiming claiming well))
   settled-fits found (differs-later claiming differs small later settles) = subst Fits (sym settles) (word-fits (ticket .claimed) (counts-in ticket Claiming claiming well))
   settled-fits found (differs-first claiming differs small first settles) = subst Fits (sym settles) (stale-fits (ticket .claimed) (counts-in ticket Claiming claiming well))
   settled-fits found (puts-one putting more settles) =
@@ -123,7 +135,7 @@ module _ (ticket : Ticket) (well : wellMade ticket ≡ true) (tries : ticket .tr
       let below = counts-in ticket Viewing viewing well in
       subst Fits (sym settles) (count-fits (ticket .claimed + 1) (omega arith))
   settled-fits found (notes-last viewing small last settles) = subst Fits (sym settles) (count-fits (ticket .claimed + 1) (omega arith))
-  settled-fits found (view-waits viewing large settles) = subst Fits (sym settles) (word-fits (ticket .claimed) (counts-in ticket Viewing viewing well))
+  settled-fits found (view-waits viewing large settles) = subst Fits (sym settles) (waiting-fits found (ticket .claimed) (counts-in ticket Viewing viewing well))
   settled-fits found (view-returns-one viewed more settles) =
       let (below, all) = counts-in ticket Viewed viewed well in
       subst Fits (sym settles) (count-fits (ticket .done + 1) (omega arith))

@@ -1,13 +1,13 @@
 -- A call leaves a table as the code has it: sixteen slots, room for six targets in each, and tries of 32 bits.
 use Prim.Native.Nat.{ℕ, _+_, _≤_, _<_}
-use mathlib.Core.Path.{_≡_, refl, subst, sym, _∙_}
-use mathlib.Core.Bool.{Bool, true, false, cond}
+use mathlib.Core.Path.{_≡_, refl, subst, sym, _∙_, ap}
+use mathlib.Core.Bool.{Bool, true, false, cond, false≢true}
 use mathlib.Core.List.{List, map}
 use mathlib.Core.Option.{Option, none, some}
 use native.Mathlib.Decide.{ℕ-discrete, decLt}
 use native.Mathlib.Omega.{arith}
 use lib.Dec.{eqb}
-use lib.ListN.{length, length-append, length-map, length-replicate, length-set}
+use lib.ListN.{length, length-append, length-map, length-replicate, length-set, List·getD-eq-default}
 use lib.Seq.{getD-set-same, getD-set-other}
 use borrow.Author.Tests.{lt-ltb, le-ltb}
 use Rattle.words.specs.Words.{Words, isHeld, mostTargets, teamCount}
@@ -18,7 +18,7 @@ use Rattle.tickets.specs.declared.Ticket.{Ticket}
 use Rattle.tickets.specs.declared.Tickets.{Tickets}
 use Rattle.tickets.specs.declared.StepAnswer.{StepAnswer}
 use Rattle.tickets.specs.declared.StepAnswer.the-variants.{Found, Put, Returned, Granted, Stale, Seen}
-use Rattle.tickets.specs.Tickets.{target, noTicket, absentSlot, targetAt, ticketOf, withTicket, padded}
+use Rattle.tickets.specs.Tickets.{target, noTicket, absentSlot, targetAt, ticketOf, withTicket, padded, hasTicket}
 use Rattle.tickets.specs.Steps.{mostTries, oneMoreTry, advanced, stepped, claimed, waited, differed, givenBack, noting, viewClaimed, viewWaited, valuesSeen, settledIn, settled, stepOf}
 use Rattle.tickets.proofs.Stepping.{foundBy}
 use Rattle.edits.specs.declared.Edit.{Edit}
@@ -75,14 +75,14 @@ module _ (ticket : Ticket) (fits : SlotFits ticket) where
       let word = targetAt ticket (ticket .claimed) .word in
       ends-or-goes-on (eqb (ticket .claimed) 0) (Stale word (oneMoreTry (ticket .tries))) (Found word) GivingBack (ticket .claimed) 0
 
-  claiming-fits : (as-quoted held : Bool) → SlotFits (cond as-quoted (claimed ticket) (cond held (waited ticket) (differed ticket)) .ticket)
-  claiming-fits true held =
+  claiming-fits : (found : ℕ) (as-quoted held : Bool) → SlotFits (cond as-quoted (claimed ticket) (cond held (waited ticket found) (differed ticket)) .ticket)
+  claiming-fits found true held =
       let more = ticket .claimed + 1 in
       one-fits (eqb more (ticket .n)) (advanced-fits ticket fits Putting more 0) (advanced-fits ticket fits Claiming more (ticket .done))
-  claiming-fits false true = advanced-fits ticket fits Claiming (ticket .claimed) (ticket .done)
-  claiming-fits false false = differed-fits
+  claiming-fits found false true = advanced-fits ticket fits Claiming (ticket .claimed) (ticket .done)
+  claiming-fits found false false = differed-fits
 
-  viewing-fits : (found : ℕ) (held : Bool) → SlotFits (cond held (viewWaited ticket) (viewClaimed ticket found) .ticket)
+  viewing-fits : (found : ℕ) (held : Bool) → SlotFits (cond held (viewWaited ticket found) (viewClaimed ticket found) .ticket)
   viewing-fits found true = advanced-fits ticket fits Viewing (ticket .claimed) (ticket .done)
   viewing-fits found false =
       let more = ticket .claimed + 1 in
@@ -91,7 +91,7 @@ module _ (ticket : Ticket) (fits : SlotFits ticket) where
       one-fits (eqb more (ticket .n)) (advanced-fits noted noted-fits Viewed more 0) (advanced-fits noted noted-fits Viewing more (ticket .done))
 
   settled-fits : (phase : Phase) (found : ℕ) → SlotFits (settledIn phase ticket found .ticket)
-  settled-fits Claiming found = claiming-fits (eqb found (targetAt ticket (ticket .claimed) .quoted)) (isHeld found)
+  settled-fits Claiming found = claiming-fits found (eqb found (targetAt ticket (ticket .claimed) .quoted)) (isHeld found)
   settled-fits Putting found =
       let more = ticket .done + 1 in
       ends-or-goes-on (eqb more (ticket .n)) (Granted (oneMoreTry (ticket .tries))) (Put more) Putting (ticket .claimed) more
@@ -146,6 +146,13 @@ opened-view-fits words most =
       new = padded-length words most;
       tries = omega arith;
     }
+
+-- A team with a ticket is one of the sixteen.
+pub standing-inside : (table : Tickets) → length (table .slots) ≡ teamCount → (team : ℕ) → hasTicket (ticketOf table team .phase) ≡ true → team < teamCount
+standing-inside table teams team stands = elim (decLt team teamCount) [
+  | yes inside ↦ inside
+  | no outside ↦ absurd (false≢true (sym (ap (λ (ticket : Ticket). hasTicket (ticket .phase)) (List·getD-eq-default (table .slots) absentSlot {n = team} (omega arith))) ∙ stands))
+]
 
 -- Another ticket in one slot.
 with-fits : (tickets : Tickets) (team : ℕ) (ticket : Ticket) → TableFits tickets → (team < teamCount → SlotFits ticket) → TableFits (withTicket tickets team ticket)

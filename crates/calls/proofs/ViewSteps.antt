@@ -96,9 +96,9 @@ module _ (words : List ℕ) (heard : Noted) (turn : Turn (asking (aView words) h
       (view-goes (noting ticket value) (words-noting ticket value) (names-noting ticket value) refl (withClaimed (ticket .claimed + 1) watched) refl
       (up-to-more (ticket .claimed) (heard .claimed) (known .claimed)) (known .released) (known .rest .undecided) (omega (arith, known .rest .swapped)) tt)
 
-  view-waits : Leaving turn plain (advanced ticket Viewing (ticket .claimed) (ticket .done)) (Waiting (targetAt ticket (ticket .claimed) .word))
+  view-waits : (holder : ℕ) → Leaving turn plain (advanced ticket Viewing (ticket .claimed) (ticket .done)) (Waiting (targetAt ticket (ticket .claimed) .word) holder)
       → Kept turn
-  view-waits left =
+  view-waits holder left =
       stays-as turn (withWait watched) left refl (my-place turn)
       (view-goes ticket refl refl refl (withWait watched) refl
       (known .claimed) (known .released) (known .rest .undecided) (omega (arith, known .rest .swapped)) tt)
@@ -162,7 +162,7 @@ module _ (words : List ℕ) (heard : Noted) (turn : Turn (asking (aView words) h
   pub view-kept : StepKept (turn .shared .book) (ticketOf (turn .shared .tickets)) plain team ticket → Kept turn
   view-kept (claimed-one claiming more left) = absurd (view-in Claiming claiming)
   view-kept (claimed-last claiming last matches left) = absurd (view-in Claiming claiming)
-  view-kept (waiting claiming holder left) = absurd (view-in Claiming claiming)
+  view-kept (waiting claiming holder other left) = absurd (view-in Claiming claiming)
   view-kept (found-other claiming some-claimed differs left) = absurd (view-in Claiming claiming)
   view-kept (stale-at-once claiming none-claimed differs left) = absurd (view-in Claiming claiming)
   view-kept (put-one putting more left) = absurd (view-in Putting putting)
@@ -171,6 +171,6 @@ module _ (words : List ℕ) (heard : Noted) (turn : Turn (asking (aView words) h
   view-kept (returned-last giving last left) = absurd (view-in GivingBack giving)
   view-kept (viewed-one viewing more value plain-is left) = step-notes more value left
   view-kept (viewed-last viewing last value matches left) = step-notes-last viewing last value matches left
-  view-kept (view-waiting viewing holder left) = view-waits left
+  view-kept (view-waiting viewing holder other left) = view-waits _ left
   view-kept (view-returned-one viewed more left) = view-returns viewed left
   view-kept (view-returned-last viewed last left) = step-sees viewed last left

@@ -78,7 +78,7 @@ table =
     ∷ Step 0 ∷ Step 0 ∷ Step 0 ∷ Step 0 ∷ Step 0 ∷ Step 0 ∷ Step 0 ∷ Step 0 ∷ Step 0 ∷ Step 1 ∷ []
     )
     (
-    Answer.Standing 5 ∷ Answer.Standing 5 ∷ Answer.Step (Claimed 1) ∷ Answer.Step (Waiting 0)
+    Answer.Standing 5 ∷ Answer.Standing 5 ∷ Answer.Step (Claimed 1) ∷ Answer.Step (Waiting 0 0)
     ∷ Answer.Step (Claimed 2) ∷ Answer.Step (Claimed 3) ∷ Answer.Step (Claimed 4) ∷ Answer.Step (Claimed 5)
     ∷ Answer.Step (Put 1) ∷ Answer.Step (Put 2) ∷ Answer.Step (Put 3) ∷ Answer.Step (Put 4) ∷ Answer.Step (Granted 10)
     ∷ Answer.Step (Stale 0 2) ∷ []

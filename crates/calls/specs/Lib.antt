@@ -3,6 +3,7 @@ pub mod Way
 pub mod Run
 pub mod Order
 pub mod Linearizable
+pub mod Holder
 pub mod Demand1
 pub mod Demand2
 pub mod Survey

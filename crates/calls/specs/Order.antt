@@ -186,7 +186,7 @@ hearSeen n team ticket (anEdit edit) place values = noteOutOfTurn n
 
 abbrev pub hearStepAnswer : Notes → ℕ → Noted → StepAnswer → Notes
 hearStepAnswer n team ticket (Claimed k) = hearClaimed n team ticket k
-hearStepAnswer n team ticket (Waiting word) = noteTicket n team (withWait ticket)
+hearStepAnswer n team ticket (Waiting word holder) = noteTicket n team (withWait ticket)
 hearStepAnswer n team ticket (Found word) = decide n team stale (withFound word ticket) (ticket .asked)
 hearStepAnswer n team ticket (Put k) = noteTicket n team (withReleased k ticket)
 hearStepAnswer n team ticket (Returned k) = noteTicket n team (withReleased k ticket)

@@ -71,6 +71,17 @@ fn write_short(out: &mut [u8], kind: u16, x: u16) -> usize
     count
 }
 
+// two of them,
+fn write_two_short(out: &mut [u8], kind: u16, x: u16, y: u16) -> usize
+    requires { ⌜ longestAnswer ≤ length (now out) ⌝ }
+    ensures { λ r. ⌜ (r, now (out .exit)) ≡ written (now (out .entry)) (frameOf kind (bytes16 x ++ bytes16 y)) ⌝ }
+{
+    let count = put_head(out, kind, 2 * Frame::FIELD);
+    put16(out, Frame::HEAD, x);
+    put16(out, Frame::HEAD + Frame::FIELD, y);
+    count
+}
+
 // one of 32 bits,
 fn write_long(out: &mut [u8], kind: u16, x: u32) -> usize
     requires { ⌜ longestAnswer ≤ length (now out) ⌝ }
@@ -151,7 +162,7 @@ pub fn write_edit_step(out: &mut [u8], answer: EditAnswer) -> usize
 {
     match answer {
         EditAnswer::Claimed(many) => write_short(out, AnswerKind::CLAIMED, many),
-        EditAnswer::Waiting(word) => write_short(out, AnswerKind::WAITING, word),
+        EditAnswer::Waiting(word, team) => write_two_short(out, AnswerKind::WAITING, word, team),
         EditAnswer::Found(word) => write_short(out, AnswerKind::FOUND, word),
         EditAnswer::Put(many) => write_short(out, AnswerKind::PUT, many),
         EditAnswer::Returned(many) => write_short(out, AnswerKind::RETURNED, many),
@@ -167,7 +178,7 @@ fn write_step(out: &mut [u8], answer: StepAnswer) -> usize
 {
     match answer {
         StepAnswer::Claimed(many) => write_edit_step(out, EditAnswer::Claimed(many)),
-        StepAnswer::Waiting(word) => write_edit_step(out, EditAnswer::Waiting(word)),
+        StepAnswer::Waiting(word, team) => write_edit_step(out, EditAnswer::Waiting(word, team)),
         StepAnswer::Found(word) => write_edit_step(out, EditAnswer::Found(word)),
         StepAnswer::Put(many) => write_edit_step(out, EditAnswer::Put(many)),
         StepAnswer::Returned(many) => write_edit_step(out, EditAnswer::Returned(many)),

@@ -8,7 +8,7 @@ use lib.IntN.{ℤ, pos, negsuc}
 use lib.ListN.{length, replicate}
 use Rattle.words.specs.Tests.{allHold, someHolds, distinct}
 use Rattle.legs.specs.Legs.{measureInRange}
-use Rattle.tickets.specs.declared.StepAnswer.the-variants.{Granted, Stale, Seen}
+use Rattle.tickets.specs.declared.StepAnswer.the-variants.{Waiting, Granted, Stale, Seen}
 use Rattle.tickets.specs.declared.Values.{Values}
 use Rattle.tickets.specs.Steps.{valuesFrom}
 use Rattle.tickets.specs.declared.LookAnswer.the-variants.{Value, Held}
@@ -97,6 +97,15 @@ granted-10 = refl
 stale-1-3 : answerFrame (Answer.Step (Stale 1 3)) ≡ 8 ∷ 0 ∷ 135 ∷ 0 ∷ 1 ∷ 0 ∷ 3 ∷ 0 ∷ 0 ∷ 0 ∷ []
 unfolding answerFrame
 stale-1-3 = refl
+
+-- Word 4,095 is waited for, which team 3 holds: the word goes before the team.
+waiting-4095-3 : answerFrame (Answer.Step (Waiting 4095 3)) ≡ 6 ∷ 0 ∷ 130 ∷ 0 ∷ 255 ∷ 15 ∷ 3 ∷ 0 ∷ []
+unfolding answerFrame
+waiting-4095-3 = refl
+
+waiting-heard : answerIn (6 ∷ 0 ∷ 130 ∷ 0 ∷ 255 ∷ 15 ∷ 3 ∷ 0 ∷ []) ≡ some (Answer.Step (Waiting 4095 3))
+unfolding answerIn answerFrame numbers64 fields64
+waiting-heard = refl
 
 -- The measure of the leg above, looked at.
 value : answerFrame (Answer.Look (Value 76022100792200)) ≡ 10 ∷ 0 ∷ 136 ∷ 0 ∷ 136 ∷ 19 ∷ 80 ∷ 70 ∷ 36 ∷ 69 ∷ 0 ∷ 0 ∷ []

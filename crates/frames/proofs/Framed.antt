@@ -48,7 +48,7 @@ frame-sound kind fields few bytes = record {
 few-fields : (answer : Answer) → length (answerFields answer) ≤ 48
 few-fields (Standing n) = omega arith
 few-fields (Step (Claimed many)) = omega arith
-few-fields (Step (Waiting word)) = omega arith
+few-fields (Step (Waiting word team)) = omega arith
 few-fields (Step (Found word)) = omega arith
 few-fields (Step (Put many)) = omega arith
 few-fields (Step (Returned many)) = omega arith
@@ -62,7 +62,7 @@ few-fields (Refused number) = omega arith
 fields-bytes : (answer : Answer) → areBytes (answerFields answer) ≡ true
 fields-bytes (Standing n) = with16 n [] no-bytes
 fields-bytes (Step (Claimed many)) = with16 many [] no-bytes
-fields-bytes (Step (Waiting word)) = with16 word [] no-bytes
+fields-bytes (Step (Waiting word team)) = with16 word (bytes16 team) (with16 team [] no-bytes)
 fields-bytes (Step (Found word)) = with16 word [] no-bytes
 fields-bytes (Step (Put many)) = with16 many [] no-bytes
 fields-bytes (Step (Returned many)) = with16 many [] no-bytes

@@ -120,9 +120,11 @@ answers-read-back (Standing n) h =
 answers-read-back (Step (Claimed many)) h =
     let part = answerFields (Step (Claimed many)) in
     found (Step (Claimed many)) (Step (Claimed (number16 part 0))) (drop 2 (answersWith part)) (ap (λ (x : ℕ). Step (Claimed x)) (back16 many (ltb-true _ _ h)))
-answers-read-back (Step (Waiting word)) h =
-    let part = answerFields (Step (Waiting word)) in
-    found (Step (Waiting word)) (Step (Waiting (number16 part 0))) (drop 3 (answersWith part)) (ap (λ (x : ℕ). Step (Waiting x)) (back16 word (ltb-true _ _ h)))
+answers-read-back (Step (Waiting word team)) h =
+    let part = answerFields (Step (Waiting word team)) in
+    let (word-fits, (team-fits, u)) = split (ltb word 65536 ∷ ltb team 65536 ∷ []) h in
+    found (Step (Waiting word team)) (Step (Waiting (number16 part 0) (number16 part 2))) (drop 3 (answersWith part))
+    (ap₂ (λ (x y : ℕ). Step (Waiting x y)) (back16 word (ltb-true _ _ word-fits)) (back16 team (ltb-true _ _ team-fits)))
 answers-read-back (Step (Found word)) h =
     let part = answerFields (Step (Found word)) in
     found (Step (Found word)) (Step (Found (number16 part 0))) (drop 4 (answersWith part)) (ap (λ (x : ℕ). Step (Found x)) (back16 word (ltb-true _ _ h)))
@@ -146,7 +148,7 @@ answers-read-back (Step (Seen values)) h =
     let after : ℕ → List Answer = λ many. drop many (answersWith part) in
     passed seen (Standing (number16 part 0)) (after 1) refl
     (passed seen (Step (Claimed (number16 part 0))) (after 2) refl
-    (passed seen (Step (Waiting (number16 part 0))) (after 3) refl
+    (passed seen (Step (Waiting (number16 part 0) (number16 part 2))) (after 3) refl
     (passed seen (Step (Found (number16 part 0))) (after 4) refl
     (passed seen (Step (Put (number16 part 0))) (after 5) refl
     (passed seen (Step (Returned (number16 part 0))) (after 6) refl

@@ -23,7 +23,7 @@ frameOf kind fields = bytes16 (2 + length fields) ++ bytes16 kind ++ fields
 -- The number of each answer to a step, to a look, and of any.
 abbrev pub stepAnswerKind : StepAnswer → ℕ
 stepAnswerKind (Claimed many) = 129
-stepAnswerKind (Waiting word) = 130
+stepAnswerKind (Waiting word team) = 130
 stepAnswerKind (Found word) = 131
 stepAnswerKind (Put many) = 132
 stepAnswerKind (Returned many) = 133
@@ -48,7 +48,7 @@ valuesShown seen = take (seen .n) (valuesOf seen)
 -- The fields of each: 16 bits, but tries 32 and a value 64.
 abbrev pub stepAnswerFields : StepAnswer → Bytes
 stepAnswerFields (Claimed many) = bytes16 many
-stepAnswerFields (Waiting word) = bytes16 word
+stepAnswerFields (Waiting word team) = bytes16 word ++ bytes16 team
 stepAnswerFields (Found word) = bytes16 word
 stepAnswerFields (Put many) = bytes16 many
 stepAnswerFields (Returned many) = bytes16 many

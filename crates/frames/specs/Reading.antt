@@ -29,7 +29,7 @@ abbrev pub answersWith : Bytes → List Answer
 answersWith part =
     Standing (number16 part 0)
     ∷ Step (Claimed (number16 part 0))
-    ∷ Step (Waiting (number16 part 0))
+    ∷ Step (Waiting (number16 part 0) (number16 part 2))
     ∷ Step (Found (number16 part 0))
     ∷ Step (Put (number16 part 0))
     ∷ Step (Returned (number16 part 0))
@@ -73,7 +73,7 @@ valuesFit seen =
 -- Each field has room in its bits.
 abbrev pub stepAnswerFits : StepAnswer → Bool
 stepAnswerFits (Claimed many) = fits16 many
-stepAnswerFits (Waiting word) = fits16 word
+stepAnswerFits (Waiting word team) = allHold (fits16 word ∷ fits16 team ∷ [])
 stepAnswerFits (Found word) = fits16 word
 stepAnswerFits (Put many) = fits16 many
 stepAnswerFits (Returned many) = fits16 many

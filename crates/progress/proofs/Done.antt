@@ -2,7 +2,7 @@
 use Prim.Native.Nat.{ℕ}
 use mathlib.Core.Path.{_≡_, sym, ap, subst, _∙_}
 use mathlib.Core.Bool.{true, false≢true}
-use mathlib.Core.List.{List, [], _∷_}
+use mathlib.Core.List.{List}
 use mathlib.Core.Option.{Option, none, some}
 use native.Mathlib.Omega.{arith}
 use lib.ListN.{length}
@@ -15,14 +15,11 @@ use Rattle.edits.specs.Ordering.{RisesStrictly}
 use Rattle.edits.specs.Views.{viewTargets}
 use Rattle.edits.proofs.Stored.{stored-targets-rise}
 use Rattle.edits.proofs.Views.{view-targets-rise}
-use Rattle.calls.specs.Run.{Call, framed, OfBytes, Shared, leftBy, runFrom, fresh, run}
+use Rattle.calls.specs.Run.{Call, OfBytes, Shared, run}
 use Rattle.calls.specs.Order.{Asked, anEdit, aView, wordsAsked, Noted, notesOn}
 use Rattle.calls.specs.Linearizable.{Every, heardOn}
-use Rattle.calls.specs.Demand1.{TableFits}
-use Rattle.calls.proofs.Freshness.{fresh-table}
-use Rattle.calls.proofs.Tables.{tables-stay}
 use Rattle.calls.proofs.Tied.{Tied, KnownAs}
-use Rattle.calls.proofs.Demand3.{run-good}
+use Rattle.calls.proofs.Demand3.{run-table, run-good}
 use Rattle.progress.specs.Rounds.{EveryTicketGetsDone, AllRise}
 use Rattle.progress.proofs.Measure.{rises-alike}
 use Rattle.progress.proofs.Ending.{Steady, all-get-done}
@@ -36,12 +33,6 @@ rise-of : (ticket : Ticket) (note : Option Noted) → Tied ticket note → hasTi
 rise-of ticket none absent stands = absurd (false≢true (sym (ap hasTicket absent) ∙ stands))
 rise-of ticket (some noted) known stands = rise-as (noted .asked) ticket noted (known .words) (known .rest)
 
--- Calls leave a whole table.
-tables-kept : (calls : List Call) (shared : Shared) → TableFits (shared .tickets) → TableFits (runFrom shared calls .end .tickets)
-unfolding runFrom
-tables-kept [] shared table = table
-tables-kept (framed frame out ∷ calls) shared table = tables-kept calls (leftBy shared (framed frame out)) (tables-stay (shared .book) (shared .tickets) frame out table)
-
 -- What holds between the calls, whatever the plain words are.
 steady-as : (shared : Shared) {plain : ℕ → ℕ} → length (shared .book) ≡ wordsInBook → length (shared .tickets .slots) ≡ teamCount
     → Invariant (shared .book) (ticketOf (shared .tickets)) plain
@@ -52,7 +43,7 @@ steady-as shared {plain} whole teams agree rise = record { whole = whole; teams 
 run-steady : (calls : List Call) → Every OfBytes calls → Steady positionOf (run calls .end)
 run-steady calls bytes =
     let good = run-good calls bytes in
-    steady-as (run calls .end) (good .whole) (tables-kept calls fresh fresh-table .teams) (good .agree)
+    steady-as (run calls .end) (good .whole) (run-table calls .teams) (good .agree)
     (λ team stands. rise-of (ticketOf (run calls .end .tickets) team) (notesOn (heardOn calls) .tickets team) (good .tied team) stands)
 
 -- So every ticket gets done, views included.

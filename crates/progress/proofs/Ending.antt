@@ -23,6 +23,7 @@ use Rattle.tickets.proofs.WellMade.{fit-well-made}
 use Rattle.frames.specs.Answers.{longestAnswer}
 use Rattle.calls.specs.Run.{Shared, leftBy, runFrom}
 use Rattle.calls.specs.Linearizable.{Every}
+use Rattle.calls.proofs.Tables.{standing-inside}
 use Rattle.progress.specs.Rounds.{Turn, stepCall, teamsIn, Stands, RoundFor, afterRound, afterRounds, RoundsFrom, targetsStanding, NoneStands, Waits}
 use Rattle.progress.proofs.Chain.{not-all-wait}
 use Rattle.progress.proofs.Measure.{swaps-some, Going, Moves, nearer, waited, Goes, step-goes}
@@ -58,15 +59,6 @@ first-once team teams once = by (occurs team teams) refl once
     by : (twice : Bool) → occurs team teams ≡ twice → cond twice false (distinct teams) ≡ true → (occurs team teams ≡ false) × (distinct teams ≡ true)
     by true is once = absurd (false≢true once)
     by false is once = (is, once)
-
--- No team above 15 has a ticket.
-pub standing-inside : (table : Tickets) → length (table .slots) ≡ teamCount → (team : ℕ) → Stands table team → team < teamCount
-standing-inside table teams team stands = elim (decLt team teamCount) [
-  | yes below ↦ below
-  | no above ↦
-      let absent = List·getD-eq-default (table .slots) absentSlot {n = team} (omega arith) in
-      absurd (false≢true (sym (ap (λ ticket. hasTicket (ticket .phase)) absent) ∙ stands))
-]
 
 module _ (position : ℕ → ℕ) where
   -- What holds between the calls: the book and the table are whole, and the tickets go on.

@@ -15,7 +15,7 @@ use Rattle.tickets.specs.Tickets.{ticketOf, hasTicket}
 use Rattle.frames.specs.Answers.{longestAnswer}
 use Rattle.calls.specs.Linearizable.{Every}
 use Rattle.progress.specs.Rounds.{Turn, teamsIn, Stands, turnsBelow, ThereIsARound}
-use Rattle.progress.proofs.Ending.{standing-inside}
+use Rattle.calls.proofs.Tables.{standing-inside}
 
 module _ (table : Tickets) where
   -- Such turns of the teams below n.

@@ -1,5 +1,4 @@
 pub mod Chain
-pub mod Putting
 pub mod Measure
 pub mod Totals
 pub mod Turning

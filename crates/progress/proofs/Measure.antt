@@ -25,7 +25,7 @@ use Rattle.tickets.proofs.Stepping.{step-keeps}
 use Rattle.tickets.proofs.Slots.{every-slot}
 use Rattle.edits.specs.Ordering.{RisesStrictly}
 use Rattle.progress.specs.Rounds.{Waits, AllRise}
-use Rattle.progress.proofs.Putting.{allPut, all-put}
+use Rattle.tickets.proofs.Putting.{allPut, all-put}
 
 -- While it claims: those left to claim, and then all to put or to give back; later those left to put or to give back.
 abbrev pub swapsIn : Phase → (n claimed done : ℕ) → ℕ
@@ -177,7 +177,7 @@ module _ (position : ℕ → ℕ) (words : Words) (tickets : ℕ → Ticket) (te
   goes-by (claimed-one is more left) = goes-on left (fewer Claiming is (omega arith))
   goes-by (claimed-last is last matches left) =
       goes-on (left (allPut (targetsIn ticket) (going .plain)) (all-put (targetsIn ticket) (going .plain) (fit .claimable .once))) (fewer Claiming is (omega arith))
-  goes-by (waiting is holder left) = goes-on left (waits-on Claiming is refl holder refl)
+  goes-by (waiting is holder other left) = goes-on left (waits-on Claiming is refl holder refl)
   goes-by (found-other is some differs left) = goes-on left (fewer Claiming is (omega (arith, claims-counts ticket fit (ap claims is))))
   goes-by (stale-at-once is none differs left) = ends left
   goes-by (put-one is more left) = goes-on left (fewer Putting is (omega arith))
@@ -186,7 +186,7 @@ module _ (position : ℕ → ℕ) (words : Words) (tickets : ℕ → Ticket) (te
   goes-by (returned-last is last left) = ends left
   goes-by (viewed-one is more value plain left) = views-on value left (fewer Viewing is (omega arith))
   goes-by (viewed-last is last value plain left) = views-on value left (fewer Viewing is (omega arith))
-  goes-by (view-waiting is holder left) = goes-on left (waits-on Viewing is refl holder refl)
+  goes-by (view-waiting is holder other left) = goes-on left (waits-on Viewing is refl holder refl)
   goes-by (view-returned-one is more left) = goes-on left (fewer Viewed is (omega arith))
   goes-by (view-returned-last is last left) = ends left
 

@@ -21,7 +21,7 @@ use Rattle.tickets.proofs.WellMade.{well-made-stands}
 -- The answer to an edit's step, from among those to any step. (Seen is none: its case makes the definition total.)
 abbrev asEdit : StepAnswer → EditAnswer
 asEdit (Claimed many) = Edits.Claimed many
-asEdit (Waiting word) = Edits.Waiting word
+asEdit (Waiting word team) = Edits.Waiting word team
 asEdit (Found word) = Edits.Found word
 asEdit (Put many) = Edits.Put many
 asEdit (Returned many) = Edits.Returned many
@@ -31,7 +31,7 @@ asEdit (Seen values) = Edits.Claimed 0
 
 edit-again : (answer : EditAnswer) → answer ≡ asEdit (asStep answer)
 edit-again (Edits.Claimed many) = refl
-edit-again (Edits.Waiting word) = refl
+edit-again (Edits.Waiting word team) = refl
 edit-again (Edits.Found word) = refl
 edit-again (Edits.Put many) = refl
 edit-again (Edits.Returned many) = refl
@@ -95,7 +95,7 @@ targets-stay ticket false more = refl
 
 pub goes-on-same : (ticket : Ticket) (answer : EditAnswer) → finishes answer ≡ false → withCounts ticket (afterAnswer ticket answer) ≡ afterAnswer ticket answer
 goes-on-same ticket (Edits.Claimed many) on = targets-stay ticket (eqb (ticket .claimed + 1) (ticket .n)) (ticket .claimed + 1)
-goes-on-same ticket (Edits.Waiting word) on = refl
+goes-on-same ticket (Edits.Waiting word team) on = refl
 goes-on-same ticket (Edits.Found word) on = refl
 goes-on-same ticket (Edits.Put many) on = refl
 goes-on-same ticket (Edits.Returned many) on = refl

@@ -70,7 +70,7 @@ meeting = withSlot (withSlot noTickets 0 (opened (target 3 0 7 ∷ target 5 0 9 
 
 meet : steps book meeting (0 ∷ 1 ∷ 0 ∷ 0 ∷ 0 ∷ 1 ∷ [])
     ≡ record {
-      answers = Claimed 1 ∷ Waiting 3 ∷ Claimed 2 ∷ Put 1 ∷ Granted 4 ∷ Stale 3 2 ∷ [];
+      answers = Claimed 1 ∷ Waiting 3 0 ∷ Claimed 2 ∷ Put 1 ∷ Granted 4 ∷ Stale 3 2 ∷ [];
       words = 0 ∷ 0 ∷ 0 ∷ 7 ∷ 0 ∷ 9 ∷ 0 ∷ 0 ∷ [];
     }
 unfolding steps stepOf settled swapTried
@@ -154,7 +154,7 @@ viewing-last = withSlot (withSlot noTickets 0 (opened (target 3 7 8 ∷ []))) 1 
 
 view-waits : steps written viewing-last (0 ∷ 1 ∷ 0 ∷ 1 ∷ 1 ∷ [])
     ≡ record {
-      answers = Claimed 1 ∷ Waiting 3 ∷ Granted 2 ∷ Claimed 1 ∷ seenOne 8 ∷ [];
+      answers = Claimed 1 ∷ Waiting 3 0 ∷ Granted 2 ∷ Claimed 1 ∷ seenOne 8 ∷ [];
       words = 0 ∷ 0 ∷ 0 ∷ 8 ∷ 0 ∷ 9 ∷ 0 ∷ 0 ∷ [];
     }
 unfolding steps stepOf settled swapTried valueNoted
@@ -166,7 +166,7 @@ viewing-first = withSlot (withSlot noTickets 0 (opened (target 3 7 8 ∷ []))) 1
 
 edit-waits : steps written viewing-first (1 ∷ 0 ∷ 1 ∷ 0 ∷ 1 ∷ 0 ∷ 0 ∷ 1 ∷ [])
     ≡ record {
-      answers = Claimed 1 ∷ Waiting 3 ∷ Claimed 2 ∷ Waiting 3 ∷ Returned 1 ∷ Claimed 1 ∷ Granted 4 ∷ seenTwo 9 7 ∷ [];
+      answers = Claimed 1 ∷ Waiting 3 1 ∷ Claimed 2 ∷ Waiting 3 1 ∷ Returned 1 ∷ Claimed 1 ∷ Granted 4 ∷ seenTwo 9 7 ∷ [];
       words = 0 ∷ 0 ∷ 0 ∷ 8 ∷ 0 ∷ 9 ∷ 0 ∷ 0 ∷ [];
     }
 unfolding steps stepOf settled swapTried valueNoted
@@ -176,6 +176,6 @@ edit-waits = refl
 abbrev two-views : ℕ → Ticket
 two-views = withSlot (withSlot noTickets 0 (viewing (5 ∷ []) (5 ∷ []))) 1 (viewing (5 ∷ []) (5 ∷ []))
 
-views-meet : steps written two-views (0 ∷ 1 ∷ 0 ∷ 1 ∷ 1 ∷ []) ≡ record { answers = Claimed 1 ∷ Waiting 5 ∷ seenOne 9 ∷ Claimed 1 ∷ seenOne 9 ∷ []; words = written }
+views-meet : steps written two-views (0 ∷ 1 ∷ 0 ∷ 1 ∷ 1 ∷ []) ≡ record { answers = Claimed 1 ∷ Waiting 5 0 ∷ seenOne 9 ∷ Claimed 1 ∷ seenOne 9 ∷ []; words = written }
 unfolding steps stepOf settled swapTried valueNoted
 views-meet = refl

@@ -16,3 +16,4 @@ pub mod WellMade
 pub mod After
 pub mod Tries
 mod Examples
+pub mod Putting

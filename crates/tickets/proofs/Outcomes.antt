@@ -5,7 +5,7 @@ use mathlib.Core.Bool.{Bool, true, false, false≢true}
 use mathlib.Core.Logic.{_≢_}
 use lib.Dec.{eqb}
 use borrow.Author.Tests.{eqb-true, eqb-false, leb-true, leb-false}
-use Rattle.words.specs.Words.{isHeld}
+use Rattle.words.specs.Words.{isHeld, holderOf}
 use Rattle.tickets.specs.declared.Phase.{Phase}
 use Rattle.tickets.specs.declared.Phase.the-variants.{NoTicket, Claiming, Putting, GivingBack, Viewing, Viewed}
 use Rattle.tickets.specs.declared.Ticket.{Ticket}
@@ -28,7 +28,7 @@ pub data Outcome (ticket : Ticket) (found : ℕ) : Type 0 where
   waits : ticket .phase ≡ Claiming
       → found ≢ targetAt ticket (ticket .claimed) .quoted
       → 2 ^ 63 ≤ found
-      → settled ticket found ≡ stepped (advanced ticket Claiming (ticket .claimed) (ticket .done)) (Waiting (targetAt ticket (ticket .claimed) .word))
+      → settled ticket found ≡ stepped (advanced ticket Claiming (ticket .claimed) (ticket .done)) (Waiting (targetAt ticket (ticket .claimed) .word) (holderOf found))
       → Outcome ticket found
   differs-later : ticket .phase ≡ Claiming
       → found ≢ targetAt ticket (ticket .claimed) .quoted
@@ -70,7 +70,7 @@ pub data Outcome (ticket : Ticket) (found : ℕ) : Type 0 where
       → Outcome ticket found
   view-waits : ticket .phase ≡ Viewing
       → 2 ^ 63 ≤ found
-      → settled ticket found ≡ stepped (advanced ticket Viewing (ticket .claimed) (ticket .done)) (Waiting (targetAt ticket (ticket .claimed) .word))
+      → settled ticket found ≡ stepped (advanced ticket Viewing (ticket .claimed) (ticket .done)) (Waiting (targetAt ticket (ticket .claimed) .word) (holderOf found))
       → Outcome ticket found
   view-returns-one : ticket .phase ≡ Viewed
       → ticket .done + 1 ≢ ticket .claimed

@@ -20,14 +20,14 @@ use Rattle.tickets.specs.Steps.{swapTriedIn, swapTried, oneMoreTry, adva
 pub settled-claimed : (ticket : Ticket) (found : ℕ) → found ≡ targetAt ticket (ticket .claimed) .quoted → settledIn Claiming ticket found ≡ claimed ticket
 settled-claimed ticket found e = rw (eq-eqb found (targetAt ticket (ticket .claimed) .quoted) e) refl
 
-pub settled-waited : (ticket : Ticket) (found : ℕ) → (found ≡ targetAt ticket (ticket .claimed) .quoted → ⊥) → isHeld found ≡ true → settledIn Claiming ticket found ≡ waited ticket
+pub settled-waited : (ticket : Ticket) (found : ℕ) → (found ≡ targetAt ticket (ticket .claimed) .quoted → ⊥) → isHeld found ≡ true → settledIn Claiming ticket found ≡ waited ticket found
 settled-waited ticket found n h = rw (ne-eqb found (targetAt ticket (ticket .claimed) .quoted) n, h) refl
 
 pub settled-differed : (ticket : Ticket) (found : ℕ) → (found ≡ targetAt ticket (ticket .claimed) .quoted → ⊥) → isHeld found ≡ false → settledIn Claiming ticket found ≡ differed ticket
 settled-differed ticket found n h = rw (ne-eqb found (targetAt ticket (ticket .claimed) .quoted) n, h) refl
 
 -- A view claiming: the word is held, or a value.
-pub settled-view-waited : (ticket : Ticket) (found : ℕ) → isHeld found ≡ true → settledIn Viewing ticket found ≡ viewWaited ticket
+pub settled-view-waited : (ticket : Ticket) (found : ℕ) → isHeld found ≡ true → settledIn Viewing ticket found ≡ viewWaited ticket found
 settled-view-waited ticket found h = rw h refl
 
 pub settled-view-claimed : (ticket : Ticket) (found : ℕ) → isHeld found ≡ false → settledIn Viewing ticket found ≡ viewClaimed ticket found

@@ -7,18 +7,18 @@ use native.Mathlib.Omega.{arith}
 use lib.Dec.{eqb}
 use lib.ListN.{length, set, length-set}
 use borrow.Author.Tests.{eq-eqb, ne-eqb, eqb-true, eqb-false, le-leb, lt-leb}
-use Rattle.words.specs.Words.{Words, Swap, markOf, readOf, swapOf}
+use Rattle.words.specs.Words.{Words, Swap, markOf, holderOf, readOf, swapOf}
 use Rattle.words.proofs.AnyValue.{value-expected, mark-unexpected}
 use Rattle.tickets.specs.declared.Phase.{Phase}
 use Rattle.tickets.specs.declared.Phase.the-variants.{NoTicket, Claiming, Putting, GivingBack, Viewing, Viewed}
 use Rattle.tickets.specs.declared.Ticket.{Ticket}
 use Rattle.tickets.specs.declared.Tickets.{Tickets}
 use Rattle.tickets.specs.declared.StepAnswer.{StepAnswer}
-use Rattle.tickets.specs.declared.StepAnswer.the-variants.{Stale}
+use Rattle.tickets.specs.declared.StepAnswer.the-variants.{Waiting, Stale}
 use Rattle.tickets.specs.Tickets.{noTicket, ticketOf, withTicket, targetAt, targetsIn, hasTicket, isView, claims}
 use Rattle.tickets.specs.Steps.{tries, swapTriedIn, swapTried, oneMoreTry, advanced, stepped, noting, settled, stepOf}
 use Rattle.tickets.specs.Targets.{AllMatch, PutInto}
-use Rattle.tickets.specs.Invariant.{withSlot, plainValue, FitTicket, Invariant, Leaves, StepKept, claimed-one, claimed-last, waiting, found-other, stale-at-once, put-one, put-last, returned-one, returned-last, viewed-one, viewed-last, view-waiting, view-returned-one, view-returned-last, StepKeeps, MarkFound, LengthKept}
+use Rattle.tickets.specs.Invariant.{withSlot, plainValue, Holds, Holder, FitTicket, Invariant, Leaves, StepKept, claimed-one, claimed-last, waiting, found-other, stale-at-once, put-one, put-last, returned-one, returned-last, viewed-one, viewed-last, view-waiting, view-returned-one, view-returned-last, StepKeeps, MarkFound, LengthKept}
 use Rattle.tickets.proofs.Slots.{table-slots}
 use Rattle.tickets.proofs.TargetLists.{length-targets, target-listed, claimable-at, at-match, put-at}
 use Rattle.tickets.proofs.Changing.{HeldAlike}
@@ -187,6 +187,30 @@ module _ (words : Words) (tickets : ℕ → Ticket) (plain : ℕ → ℕ) (team 
           holds-on i team phase (tickets team .done) claiming (fit .none-done claiming) (fit .none-done claiming) (claims-stand phase claims-now) (λ k. claims-quoted phase _ claims-now)
           (fit-claiming (length words) (tickets team) fit (tickets team .claimed) (tickets team .done) phase claims-now (λ view. ap isView is ∙ view) (claims-counts (tickets team) fit claiming) (fit .none-done claiming))
 
+      -- Who holds the word is another team: its own words are those before, and none is twice among its targets.
+      not-mine : (value : ℕ) → Holds (tickets team) (claimTarget (tickets team) .word) value → ⊥
+      not-mine value holds =
+          let below = claims-counts (tickets team) fit claiming in
+          let same = claimable-at (length words) (tickets team) (fit .claimable) .once (holds .at) (tickets team .claimed) (omega (arith, holds .claimed, below)) below (holds .its-word) in
+          omega (arith, holds .claimed, same)
+
+      another : (holder : Holder tickets (claimTarget (tickets team) .word)) → holder .team ≡ team → ⊥
+      another holder same = not-mine (holder .value) (subst (λ other. Holds (tickets other) (claimTarget (tickets team) .word) (holder .value)) same (holder .holds))
+
+      -- The word found is the holder's mark.
+      waits-on : (phase : Phase) → tickets team .phase ≡ phase
+          → (holder : Holder tickets (claimTarget (tickets team) .word))
+          → foundBy words (tickets team) team ≡ readOf words (claimTarget (tickets team) .word)
+          → settled (tickets team) (foundBy words (tickets team) team)
+          ≡ stepped (advanced (tickets team) phase (tickets team .claimed) (tickets team .done)) (Waiting (claimTarget (tickets team) .word) (holderOf (foundBy words (tickets team) team)))
+          → stepOf words (tickets team) team .1 ≡ words
+          → Leaves words tickets team plain (advanced (tickets team) phase (tickets team .claimed) (tickets team .done)) (Waiting (claimTarget (tickets team) .word) (holderOf (markOf (holder .team))))
+      waits-on phase is holder found settles words-are =
+          let marked = found ∙ i .held (holder .team) _ _ (holder .holds) .marked in
+          leaves plain _ _ _
+          (settles ∙ ap (λ mark. stepped (advanced (tickets team) phase (tickets team .claimed) (tickets team .done)) (Waiting (claimTarget (tickets team) .word) (holderOf mark))) marked)
+          words-are (waits-keeps phase is)
+
       gives-keeps : tickets team .claimed ≢ 0 → Invariant words (withSlot tickets team (advanced (tickets team) GivingBack (tickets team .claimed) 0)) plain
       gives-keeps some = holds-on i team GivingBack 0 claiming (fit .none-done claiming) refl refl (λ k. refl)
           (fit-giving (length words) (tickets team) fit (tickets team .claimed) 0 (omega arith) (claims-counts (tickets team) fit claiming))
@@ -251,8 +275,9 @@ module _ (words : Words) (tickets : ℕ → Ticket) (plain : ℕ → ℕ) (team 
     kept-by (claims-last claiming same last settles) =
         claimed-last claiming last (all-match claiming same last) (λ after put. leaves after _ _ _ settles (words-claimed claiming same) (claims-all claiming same last after put))
     kept-by (waits claiming differs large settles) =
-        waiting claiming (i .owned _ (inside (ap claims claiming)) (omega (arith, found-in Claiming words (tickets team) team claiming)))
-        (leaves plain _ _ _ settles (words-same claiming differs) (waits-keeps (ap claims claiming) Claiming claiming))
+        let found = found-in Claiming words (tickets team) team claiming in
+        let holder = i .owned _ (inside (ap claims claiming)) (omega (arith, found)) in
+        waiting claiming holder (another (ap claims claiming) holder) (waits-on (ap claims claiming) Claiming claiming holder found settles (words-same claiming differs))
     kept-by (differs-later claiming differs small some settles) =
         found-other claiming (omega arith) (not-plain claiming differs small) (leaves plain _ _ _ settles (words-same claiming differs) (gives-keeps (ap claims claiming) some))
     kept-by (differs-first claiming differs small none settles) =
@@ -271,8 +296,10 @@ module _ (words : Words) (tickets : ℕ → Ticket) (plain : ℕ → ℕ) (team 
     kept-by (notes-last viewing small last settles) =
         viewed-last viewing last _ (all-noted viewing small last) (leaves plain _ _ _ settles (words-viewed viewing small) (views-all viewing small last))
     kept-by (view-waits viewing large settles) =
-        let mark : 2 ^ 63 ≤ readOf words (claimTarget (tickets team) .word) = omega (arith, found-in Viewing words (tickets team) team viewing) in
-        view-waiting viewing (i .owned _ (inside (ap claims viewing)) mark) (leaves plain _ _ _ settles (words-waited viewing mark) (waits-keeps (ap claims viewing) Viewing viewing))
+        let found = found-in Viewing words (tickets team) team viewing in
+        let mark : 2 ^ 63 ≤ readOf words (claimTarget (tickets team) .word) = omega (arith, found) in
+        let holder = i .owned _ (inside (ap claims viewing)) mark in
+        view-waiting viewing holder (another (ap claims viewing) holder) (waits-on (ap claims viewing) Viewing viewing holder found settles (words-waited viewing mark))
     kept-by (view-returns-one viewed more settles) = let more-below = more-done Viewed viewed refl refl more in view-returned-one viewed more-below (one-done Viewed viewed refl refl more-below settles)
     kept-by (view-returns-last viewed last settles) = view-returned-last viewed last (all-done Viewed viewed refl refl last settles)
 

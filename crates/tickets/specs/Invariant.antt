@@ -6,7 +6,7 @@ use mathlib.Core.List.{map}
 use mathlib.Core.Logic.{_⊎_, _↔_}
 use lib.ListN.{length, replicate}
 use lib.Dec.{eqb}
-use Rattle.words.specs.Words.{Words, wordsInBook, markOf, readOf}
+use Rattle.words.specs.Words.{Words, wordsInBook, markOf, holderOf, readOf}
 use Rattle.tickets.specs.declared.Target.{Target}
 use Rattle.tickets.specs.declared.Phase.{Phase}
 use Rattle.tickets.specs.declared.Phase.the-variants.{NoTicket, Claiming, Putting, GivingBack, Viewing, Viewed}
@@ -146,10 +146,11 @@ pub data StepKept (words : Words) (tickets : ℕ → Ticket) (plain : ℕ → �
       → AllMatch (targetsIn ticket) plain
       → ((after : ℕ → ℕ) → PutInto (targetsIn ticket) plain after → Leaves words tickets team after (advanced ticket Putting (ticket .claimed + 1) 0) (Claimed (ticket .claimed + 1)))
       → StepKept words tickets plain team ticket
-  -- Waiting: the word is some team's.
+  -- Waiting: the word is some other team's, and it is named by its mark.
   waiting : ticket .phase ≡ Claiming
-      → Holder tickets (targetAt ticket (ticket .claimed) .word)
-      → Leaves words tickets team plain (advanced ticket Claiming (ticket .claimed) (ticket .done)) (Waiting (targetAt ticket (ticket .claimed) .word))
+      → (holder : Holder tickets (targetAt ticket (ticket .claimed) .word))
+      → (holder .team ≡ team → ⊥)
+      → Leaves words tickets team plain (advanced ticket Claiming (ticket .claimed) (ticket .done)) (Waiting (targetAt ticket (ticket .claimed) .word) (holderOf (markOf (holder .team))))
       → StepKept words tickets plain team ticket
   -- Found: the word named differs, its plain word is not the quoted value. What is claimed is to be given back.
   found-other : ticket .phase ≡ Claiming
@@ -195,10 +196,11 @@ pub data StepKept (words : Words) (tickets : ℕ → Ticket) (plain : ℕ → �
       → (value : ℕ) → AllMatch (targetsIn (noting ticket value)) plain
       → Leaves words tickets team plain (advanced (noting ticket value) Viewed (ticket .claimed + 1) 0) (Claimed (ticket .claimed + 1))
       → StepKept words tickets plain team ticket
-  -- A view is Waiting: the word is some team's.
+  -- A view is Waiting: likewise.
   view-waiting : ticket .phase ≡ Viewing
-      → Holder tickets (targetAt ticket (ticket .claimed) .word)
-      → Leaves words tickets team plain (advanced ticket Viewing (ticket .claimed) (ticket .done)) (Waiting (targetAt ticket (ticket .claimed) .word))
+      → (holder : Holder tickets (targetAt ticket (ticket .claimed) .word))
+      → (holder .team ≡ team → ⊥)
+      → Leaves words tickets team plain (advanced ticket Viewing (ticket .claimed) (ticket .done)) (Waiting (targetAt ticket (ticket .claimed) .word) (holderOf (markOf (holder .team))))
       → StepKept words tickets plain team ticket
   -- A view Returned, and not the last word.
   view-returned-one : ticket .phase ≡ Viewed
@@ -271,7 +273,7 @@ WellMadeKept = (words : Words) (ticket : Ticket) (team : ℕ)
 -- What an answer says of the ticket after it, and of tries: a finished ticket is gone and its answer tells the tries; another ticket stands and has them.
 abbrev pub TriesTold : ℕ → StepAnswer → Ticket → Type 0
 TriesTold tries (Claimed k) after = (hasTicket (after .phase) ≡ true) × (after .tries ≡ tries)
-TriesTold tries (Waiting word) after = (hasTicket (after .phase) ≡ true) × (after .tries ≡ tries)
+TriesTold tries (Waiting word holder) after = (hasTicket (after .phase) ≡ true) × (after .tries ≡ tries)
 TriesTold tries (Found word) after = (hasTicket (after .phase) ≡ true) × (after .tries ≡ tries)
 TriesTold tries (Put k) after = (hasTicket (after .phase) ≡ true) × (after .tries ≡ tries)
 TriesTold tries (Returned k) after = (hasTicket (after .phase) ≡ true) × (after .tries ≡ tries)

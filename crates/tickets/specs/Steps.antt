@@ -4,7 +4,7 @@ use mathlib.Core.Bool.{Bool, true, false, cond}
 use mathlib.Core.List.{List, [], _∷_, map}
 use lib.ListN.{getD, set}
 use lib.Dec.{eqb, ltb}
-use Rattle.words.specs.Words.{Words, isHeld, markOf, readOf, swapOf, anyValue}
+use Rattle.words.specs.Words.{Words, isHeld, markOf, holderOf, readOf, swapOf, anyValue}
 use Rattle.tickets.specs.Tickets.{noTicket, targetAt, targetsIn, namedIn}
 use Rattle.tickets.specs.declared.Target.{Target}
 use Rattle.tickets.specs.declared.Phase.{Phase}
@@ -70,9 +70,9 @@ claimed ticket =
     let more = ticket .claimed + 1 in
     stepped (cond (eqb more (ticket .n)) (advanced ticket Putting more 0) (advanced ticket Claiming more (ticket .done))) (Claimed more)
 
--- It is 2^63 or more: nothing changes but tries (Waiting).
-abbrev pub waited : Ticket → Stepped
-waited ticket = stepped (advanced ticket Claiming (ticket .claimed) (ticket .done)) (Waiting (targetAt ticket (ticket .claimed) .word))
+-- It is 2^63 or more: nothing changes but tries (Waiting, with the holder).
+abbrev pub waited : Ticket → ℕ → Stepped
+waited ticket found = stepped (advanced ticket Claiming (ticket .claimed) (ticket .done)) (Waiting (targetAt ticket (ticket .claimed) .word) (holderOf found))
 
 -- Otherwise the ticket is stale: giving back, nothing done yet, if any word is claimed (Found), else finished (Stale).
 abbrev pub differed : Ticket → Stepped
@@ -119,8 +119,8 @@ viewClaimed ticket found =
     stepped (cond (eqb more (ticket .n)) (advanced noted Viewed more 0) (advanced noted Viewing more (ticket .done))) (Claimed more)
 
 -- A view found a mark: it waits, as an edit does.
-abbrev pub viewWaited : Ticket → Stepped
-viewWaited ticket = stepped (advanced ticket Viewing (ticket .claimed) (ticket .done)) (Waiting (targetAt ticket (ticket .claimed) .word))
+abbrev pub viewWaited : Ticket → ℕ → Stepped
+viewWaited ticket found = stepped (advanced ticket Viewing (ticket .claimed) (ticket .done)) (Waiting (targetAt ticket (ticket .claimed) .word) (holderOf found))
 
 -- The value noted for a word.
 unfoldable pub valueNoted : List Target → ℕ → ℕ
@@ -167,11 +167,11 @@ viewGivenBack ticket =
 abbrev pub settledIn : Phase → Ticket → ℕ → Stepped
 settledIn Claiming ticket found =
     cond (eqb found (targetAt ticket (ticket .claimed) .quoted)) (claimed ticket)
-    (cond (isHeld found) (waited ticket)
+    (cond (isHeld found) (waited ticket found)
     (differed ticket))
 settledIn Putting ticket found = put ticket
 settledIn GivingBack ticket found = givenBack ticket
-settledIn Viewing ticket found = cond (isHeld found) (viewWaited ticket) (viewClaimed ticket found)
+settledIn Viewing ticket found = cond (isHeld found) (viewWaited ticket found) (viewClaimed ticket found)
 settledIn Viewed ticket found = viewGivenBack ticket
 settledIn NoTicket ticket found = givenBack ticket
 
@@ -181,7 +181,7 @@ settled ticket found = settledIn (ticket .phase) ticket found
 -- The answer to an edit's step, among those to any step.
 abbrev pub asStep : EditAnswer → StepAnswer
 asStep (Edits.Claimed many) = Claimed many
-asStep (Edits.Waiting word) = Waiting word
+asStep (Edits.Waiting word team) = Waiting word team
 asStep (Edits.Found word) = Found word
 asStep (Edits.Put many) = Put many
 asStep (Edits.Returned many) = Returned many
@@ -191,7 +191,7 @@ asStep (Edits.Stale word tries) = Stale word tries
 -- Whether an edit's ticket is gone with an answer: "a finished ticket is gone".
 abbrev pub finishes : EditAnswer → Bool
 finishes (Edits.Claimed many) = false
-finishes (Edits.Waiting word) = false
+finishes (Edits.Waiting word team) = false
 finishes (Edits.Found word) = false
 finishes (Edits.Put many) = false
 finishes (Edits.Returned many) = false
@@ -201,7 +201,7 @@ finishes (Edits.Stale word tries) = true
 -- The ticket that a step of an edit leaves, by the answer alone. (A view's depends on the value found.)
 abbrev pub afterAnswer : Ticket → EditAnswer → Ticket
 afterAnswer ticket (Edits.Claimed many) = claimed ticket .ticket
-afterAnswer ticket (Edits.Waiting word) = advanced ticket Claiming (ticket .claimed) (ticket .done)
+afterAnswer ticket (Edits.Waiting word team) = advanced ticket Claiming (ticket .claimed) (ticket .done)
 afterAnswer ticket (Edits.Found word) = advanced ticket GivingBack (ticket .claimed) 0
 afterAnswer ticket (Edits.Put many) = advanced ticket Putting (ticket .claimed) (ticket .done + 1)
 afterAnswer ticket (Edits.Returned many) = advanced ticket GivingBack (ticket .claimed) (ticket .done + 1)
@@ -211,7 +211,7 @@ afterAnswer ticket (Edits.Stale word tries) = noTicket
 -- What an answer says of the counts that the ticket had: there was one more to claim, and after this one, one to put or to give back.
 abbrev pub AnswerFits : Ticket → EditAnswer → Type 0
 AnswerFits ticket (Edits.Claimed many) = ticket .claimed < ticket .n
-AnswerFits ticket (Edits.Waiting word) = Unit {0}
+AnswerFits ticket (Edits.Waiting word team) = Unit {0}
 AnswerFits ticket (Edits.Found word) = Unit {0}
 AnswerFits ticket (Edits.Put many) = ticket .done + 1 < ticket .n
 AnswerFits ticket (Edits.Returned many) = ticket .done + 1 < ticket .claimed

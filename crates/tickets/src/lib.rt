@@ -57,7 +57,7 @@ pub struct SwapTried {
 
 pub enum StepAnswer {
     Claimed(u16),
-    Waiting(u16),
+    Waiting(u16, u16),
     Found(u16),
     Put(u16),
     Returned(u16),
@@ -69,7 +69,7 @@ pub enum StepAnswer {
 // The answer to a step of an edit: small, and handed on by value where most frames go.
 pub enum EditAnswer {
     Claimed(u16),
-    Waiting(u16),
+    Waiting(u16, u16),
     Found(u16),
     Put(u16),
     Returned(u16),
@@ -394,7 +394,7 @@ impl Ticket {
             return EditAnswer::Claimed(self.claimed + 1);
         }
         if words::is_held(found) {
-            return EditAnswer::Waiting(next.word);
+            return EditAnswer::Waiting(next.word, words::holder(found));
         }
         if self.claimed == 0 {
             return EditAnswer::Stale(next.word, self.tried());
@@ -449,7 +449,11 @@ impl Ticket {
     {
         match answer {
             EditAnswer::Claimed(many) => self.claim(),
-            EditAnswer::Waiting(word) => self.advanced(Phase::Claiming, self.claimed, self.done),
+            EditAnswer::Waiting(word, team) => self.advanced(
+                Phase::Claiming,
+                self.claimed,
+                self.done,
+            ),
             EditAnswer::Found(word) => self.advanced(Phase::GivingBack, self.claimed, 0),
             EditAnswer::Put(many) => self.put(),
             EditAnswer::Returned(many) => self.give_back(),
@@ -571,7 +575,7 @@ impl Ticket {
             let next = self.target(self.claimed);
             return Stepped {
                 ticket: self.advanced(Phase::Viewing, self.claimed, self.done),
-                answer: StepAnswer::Waiting(next.word),
+                answer: StepAnswer::Waiting(next.word, words::holder(found)),
             };
         }
         Stepped {
@@ -606,7 +610,7 @@ impl EditAnswer {
     {
         match self {
             EditAnswer::Claimed(many) => false,
-            EditAnswer::Waiting(word) => false,
+            EditAnswer::Waiting(word, team) => false,
             EditAnswer::Found(word) => false,
             EditAnswer::Put(many) => false,
             EditAnswer::Returned(many) => false,
@@ -621,7 +625,7 @@ impl EditAnswer {
     {
         match self {
             EditAnswer::Claimed(many) => StepAnswer::Claimed(many),
-            EditAnswer::Waiting(word) => StepAnswer::Waiting(word),
+            EditAnswer::Waiting(word, team) => StepAnswer::Waiting(word, team),
             EditAnswer::Found(word) => StepAnswer::Found(word),
             EditAnswer::Put(many) => StepAnswer::Put(many),
             EditAnswer::Returned(many) => StepAnswer::Returned(many),

@@ -29,6 +29,13 @@ markOf team = 2 ^ 63 + team
 abbrev pub teamCount : ℕ
 teamCount = 16
 
+-- "The team is the mark less 2^63 if that is below 16, else 65,535": who holds a word, by what stands in it.
+abbrev pub nobody : ℕ
+nobody = 65535
+
+abbrev pub holderOf : ℕ → ℕ
+holderOf word = cond (isHeld word) (cond (ltb (word - 2 ^ 63) teamCount) (word - 2 ^ 63) nobody) nobody
+
 -- A ticket has room for six targets.
 abbrev pub mostTargets : ℕ
 mostTargets = 6

@@ -4,7 +4,7 @@ ghost use mathlib.Core.Bool.{Bool, true};
 ghost use Prim.Native.Nat.{_≤_, _<_};
 ghost use lib.ListN.{length, take, drop};
 ghost use Rattle.words.specs.Tests.{occurs, distinct};
-ghost use Rattle.words.specs.Words.{teamCount, mostTargets, passageCount, lastLeg, isHeld, markOf, newestWord, countWord, linkWord, placeWord, measureWord, readOf, swapOf, anyValue};
+ghost use Rattle.words.specs.Words.{teamCount, mostTargets, passageCount, lastLeg, isHeld, markOf, holderOf, newestWord, countWord, linkWord, placeWord, measureWord, readOf, swapOf, anyValue};
 
 // The limits of the book and its layout.
 pub struct Limits {}
@@ -26,6 +26,9 @@ impl Limits {
     // A word from here on is held; below it, a value.
     pub const HELD: u64 = 9223372036854775808;
 
+    // No team's number: it stands where nobody known holds a word.
+    pub const NOBODY: u16 = 65535;
+
     // A passage's words: the newest leg, the count of legs.
     pub const PASSAGE_WORDS: u16 = 2;
 
@@ -45,6 +48,20 @@ pub fn mark(team: u16) -> u64
     ensures { λ r. ⌜ r ≡ markOf team ⌝ }
 {
     Limits::HELD + team as u64
+}
+
+// Who holds a word, by what stands in it: the conditional swap reports the word found, and so the holder.
+pub fn holder(word: u64) -> u16
+    ensures { λ r. ⌜ r ≡ holderOf word ⌝ }
+{
+    if !is_held(word) {
+        return Limits::NOBODY;
+    }
+    let team = word - Limits::HELD;
+    if team < Limits::TEAMS as u64 {
+        return team as u16;
+    }
+    Limits::NOBODY
 }
 
 pub fn newest_word(passage: u16) -> u16

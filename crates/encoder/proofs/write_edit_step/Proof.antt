@@ -18,26 +18,26 @@ write-short-requires c κs = search needs
 enum-known-answer-2 : tie.Need-enum-known-answer-2
 enum-known-answer-2 c = search needs
 
-write-short-requires-2 : tie.Need-write-short-requires-2
-write-short-requires-2 c κs = search needs
+write-two-short-requires : tie.Need-write-two-short-requires
+write-two-short-requires c κs = search needs
 
 enum-known-answer-3 : tie.Need-enum-known-answer-3
 enum-known-answer-3 c = search needs
 
-write-short-requires-3 : tie.Need-write-short-requires-3
-write-short-requires-3 c κs = search needs
+write-short-requires-2 : tie.Need-write-short-requires-2
+write-short-requires-2 c κs = search needs
 
 enum-known-answer-4 : tie.Need-enum-known-answer-4
 enum-known-answer-4 c = search needs
 
-write-short-requires-4 : tie.Need-write-short-requires-4
-write-short-requires-4 c κs = search needs
+write-short-requires-3 : tie.Need-write-short-requires-3
+write-short-requires-3 c κs = search needs
 
 enum-known-answer-5 : tie.Need-enum-known-answer-5
 enum-known-answer-5 c = search needs
 
-write-short-requires-5 : tie.Need-write-short-requires-5
-write-short-requires-5 c κs = search needs
+write-short-requires-4 : tie.Need-write-short-requires-4
+write-short-requires-4 c κs = search needs
 
 enum-known-answer-6 : tie.Need-enum-known-answer-6
 enum-known-answer-6 c = search needs
@@ -63,28 +63,28 @@ same-length-2 c = search needs
 
 returns-2 : tie.Need-returns-2
 unfolding answerFrame
-returns-2 c = fitted _ _ (now (c .before .before .before .before .before .before .before .before .args .out)) (Answer.Step (asStep (c .before .before .before .before .before .before .before .before .args .answer))) (c .before .before .write-short2 .ensures ∙ ap (λ answer. written (now (c .before .before .before .before .before .before .before .before .args .out)) (answerFrame (Answer.Step (asStep answer)))) (sym (c .before .before .before .before .before .answer2 .given .1)))
+returns-2 c = fitted _ _ (now (c .before .before .before .before .before .before .before .before .args .out)) (Answer.Step (asStep (c .before .before .before .before .before .before .before .before .args .answer))) (c .before .before .write-two-short .ensures ∙ ap (λ answer. written (now (c .before .before .before .before .before .before .before .before .args .out)) (answerFrame (Answer.Step (asStep answer)))) (sym (c .before .before .before .before .before .answer2 .given .1)))
 
 same-length-3 : tie.Need-same-length-3
 same-length-3 c = search needs
 
 returns-3 : tie.Need-returns-3
 unfolding answerFrame
-returns-3 c = fitted _ _ (now (c .before .before .before .before .before .before .before .before .args .out)) (Answer.Step (asStep (c .before .before .before .before .before .before .before .before .args .answer))) (c .before .before .write-short3 .ensures ∙ ap (λ answer. written (now (c .before .before .before .before .before .before .before .before .args .out)) (answerFrame (Answer.Step (asStep answer)))) (sym (c .before .before .before .before .before .answer3 .given .1)))
+returns-3 c = fitted _ _ (now (c .before .before .before .before .before .before .before .before .args .out)) (Answer.Step (asStep (c .before .before .before .before .before .before .before .before .args .answer))) (c .before .before .write-short2 .ensures ∙ ap (λ answer. written (now (c .before .before .before .before .before .before .before .before .args .out)) (answerFrame (Answer.Step (asStep answer)))) (sym (c .before .before .before .before .before .answer3 .given .1)))
 
 same-length-4 : tie.Need-same-length-4
 same-length-4 c = search needs
 
 returns-4 : tie.Need-returns-4
 unfolding answerFrame
-returns-4 c = fitted _ _ (now (c .before .before .before .before .before .before .before .before .args .out)) (Answer.Step (asStep (c .before .before .before .before .before .before .before .before .args .answer))) (c .before .before .write-short4 .ensures ∙ ap (λ answer. written (now (c .before .before .before .before .before .before .before .before .args .out)) (answerFrame (Answer.Step (asStep answer)))) (sym (c .before .before .before .before .before .answer4 .given .1)))
+returns-4 c = fitted _ _ (now (c .before .before .before .before .before .before .before .before .args .out)) (Answer.Step (asStep (c .before .before .before .before .before .before .before .before .args .answer))) (c .before .before .write-short3 .ensures ∙ ap (λ answer. written (now (c .before .before .before .before .before .before .before .before .args .out)) (answerFrame (Answer.Step (asStep answer)))) (sym (c .before .before .before .before .before .answer4 .given .1)))
 
 same-length-5 : tie.Need-same-length-5
 same-length-5 c = search needs
 
 returns-5 : tie.Need-returns-5
 unfolding answerFrame
-returns-5 c = fitted _ _ (now (c .before .before .before .before .before .before .before .before .args .out)) (Answer.Step (asStep (c .before .before .before .before .before .before .before .before .args .answer))) (c .before .before .write-short5 .ensures ∙ ap (λ answer. written (now (c .before .before .before .before .before .before .before .before .args .out)) (answerFrame (Answer.Step (asStep answer)))) (sym (c .before .before .before .before .before .answer5 .given .1)))
+returns-5 c = fitted _ _ (now (c .before .before .before .before .before .before .before .before .args .out)) (Answer.Step (asStep (c .before .before .before .before .before .before .before .before .args .answer))) (c .before .before .write-short4 .ensures ∙ ap (λ answer. written (now (c .before .before .before .before .before .before .before .before .args .out)) (answerFrame (Answer.Step (asStep answer)))) (sym (c .before .before .before .before .before .answer5 .given .1)))
 
 same-length-6 : tie.Need-same-length-6
 same-length-6 c = search needs
@@ -107,13 +107,13 @@ write-edit-step-spec =
     enum-known-answer
     write-short-requires
     enum-known-answer-2
-    write-short-requires-2
+    write-two-short-requires
     enum-known-answer-3
-    write-short-requires-3
+    write-short-requires-2
     enum-known-answer-4
-    write-short-requires-4
+    write-short-requires-3
     enum-known-answer-5
-    write-short-requires-5
+    write-short-requires-4
     enum-known-answer-6
     write-long-requires
     enum-known-answer-7

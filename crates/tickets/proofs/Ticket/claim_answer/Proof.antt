@@ -21,14 +21,17 @@ returns c =
 is-held-requires : tie.Need-is-held-requires
 is-held-requires c κs = search needs
 
+holder-requires : tie.Need-holder-requires
+holder-requires c κs = search needs
+
 returns-2 : tie.Need-returns-2
 returns-2 c =
-    let ticket = c .before .before .before .before .before .args .self in
-    let target = c .before .before .before .before .target .ensures in
-    (λ i. Waiting (target i .word))
+    let ticket = c .before .before .before .before .before .before .args .self in
+    let target = c .before .before .before .before .before .target .ensures in
+    (λ i. Waiting (target i .word) (c .holder .ensures i))
     ∙ (λ i. sym (settled-waited ticket _
-    (λ e. c .before .before .if1 .left (e ∙ (λ j. sym target j .quoted)))
-    (sym (c .before .is-held .ensures) ∙ c .if2 .taken)) i .answer)
+    (λ e. c .before .before .before .if1 .left (e ∙ (λ j. sym target j .quoted)))
+    (sym (c .before .before .is-held .ensures) ∙ c .before .if2 .taken)) i .answer)
 
 tried-requires : tie.Need-tried-requires
 tried-requires c κs = search needs
@@ -61,6 +64,7 @@ claim-answer-spec =
     add-t5
     returns
     is-held-requires
+    holder-requires
     returns-2
     tried-requires
     returns-3

@@ -17,17 +17,20 @@ target-requires c κs = search needs
 advanced-requires : tie.Need-advanced-requires
 advanced-requires c κs = search needs
 
+holder-requires : tie.Need-holder-requires
+holder-requires c κs = search needs
+
 returns : tie.Need-returns
 returns c =
-    let args = c .before .before .before .before .args in
-    _∙_ {b = viewWaited (args .self)} (λ i. stepped (c .advanced .ensures i) (Waiting (c .before .target .ensures i .word)))
-    (sym (settled-view-waited (args .self) (args .found) (sym (c .before .before .before .is-held .ensures) ∙ c .before .before .if1 .taken)))
+    let args = c .before .before .before .before .before .args in
+    _∙_ {b = viewWaited (args .self) (args .found)} (λ i. stepped (c .before .advanced .ensures i) (Waiting (c .before .before .target .ensures i .word) (c .holder .ensures i)))
+    (sym (settled-view-waited (args .self) (args .found) (sym (c .before .before .before .before .is-held .ensures) ∙ c .before .before .before .if1 .taken)))
 
 note-requires : tie.Need-note-requires
 note-requires c κs = search needs
 
-add-t9 : tie.Need-add-t9
-add-t9 c = search needs
+add-t10 : tie.Need-add-t10
+add-t10 c = search needs
 
 returns-2 : tie.Need-returns-2
 returns-2 c =
@@ -42,7 +45,8 @@ view-claim-spec =
     is-held-requires
     target-requires
     advanced-requires
+    holder-requires
     returns
     note-requires
-    add-t9
+    add-t10
     returns-2)
