@@ -3,9 +3,9 @@ use mathlib.Core.Path.{_≡_, refl, sym, ap, subst, _∙_}
 use mathlib.Core.Bool.{true, false, false≢true}
 use mathlib.Core.List.{List}
 use mathlib.Core.Option.{Option, none, some}
-use Prim.Native.Nat.{ℕ}
+use Prim.Native.Nat.{ℕ, _<_}
 use lib.ListN.{length}
-use Rattle.words.specs.Words.{markOf, holderOf}
+use Rattle.words.specs.Words.{teamCount, markOf, holderOf}
 use Rattle.words.proofs.Marks.{mark-held-by}
 use Rattle.tickets.specs.declared.Ticket.{Ticket}
 use Rattle.tickets.specs.declared.StepAnswer.{StepAnswer}
@@ -38,7 +38,7 @@ use Rattle.calls.proofs.Demand3.{to-heard, run-good, run-table}
 module _ (shared : Shared) (n : Notes) (table : TableFits (shared .tickets)) (good : Good shared n) (waiter word team : ℕ) where
   -- What is to be shown.
   abbrev Names : Type 0
-  Names = (holdsWord (n .tickets team) word ≡ true) × (team ≡ waiter → ⊥)
+  Names = (holdsWord (n .tickets team) word ≡ true) × (team < teamCount) × (team ≡ waiter → ⊥)
 
   abbrev ticket : Ticket
   ticket = ticketOf (shared .tickets) waiter
@@ -52,6 +52,7 @@ module _ (shared : Shared) (n : Notes) (table : TableFits (shared .tickets)) (go
       let is-word : targetAt ticket (ticket .claimed) .word ≡ word = cc in (
         subst (λ (t : ℕ). holdsWord (n .tickets t) word ≡ true) named
             (subst (λ (w : ℕ). holdsWord (n .tickets (holder .team)) w ≡ true) is-word (to-heard shared n good (holder .team) _ (holder .value) (holder .holds))),
+        subst (λ (t : ℕ). t < teamCount) named inside,
         λ same-team. other (named ∙ same-team),
       )
 

@@ -86,7 +86,7 @@ module _ (words : List ℕ) (fine : FineView words) where
     spent = refl;
     claimed = up-to-none;
     released = up-to-none;
-    rest = record { fine = fine; names = opened .names; undecided = (refl, refl); swapped = refl; phase = tt };
+    rest = record { fine = fine; names = opened .names; undecided = (refl, refl); swapped = refl; phase = refl };
   }
 
 -- A step, of an edit's ticket or of a view.

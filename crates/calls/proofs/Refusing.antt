@@ -16,9 +16,10 @@ use Rattle.tickets.specs.declared.Tickets.{Tickets}
 use Rattle.tickets.specs.Tickets.{hasTicket, wellMade}
 use Rattle.edits.specs.Views.{allInBook, viewInRange, viewRepeats, FineView}
 use Rattle.frames.specs.Request.{Request, Open, Step, Look, View}
-use Rattle.frames.specs.Numbers.{Bytes, number16, numbers16}
+use Rattle.frames.specs.Numbers.{Bytes, number16}
 use Rattle.frames.specs.Requests.{lengthField, kindField, headBytes, partAfterKind, addKind, stepKind, lookKind, viewKind, lengthOfKind, teamIn, editOfKind, viewWordsIn, requestOfKind, requestIn}
 use Rattle.frames.specs.Fields.{longestFrame, frameTorn, kindUnknown, lengthWrong, ViewFields, FieldsOf, Whole, fieldOutOfRange, fieldRepeated}
+use Rattle.frames.proofs.Bytes.{length-numbers16}
 use Rattle.frames.proofs.Headers.{whole}
 use Rattle.calls.specs.Call.{bookLengthWrong, outputShort, teamUnknown, badlyMade, ownTicketBadlyMade, opensOverTicket, stepWithoutTicket, refusalTests, firstFrom, refusalOf}
 
@@ -102,17 +103,12 @@ frame-whole frame torn unknown wrong =
     whole frame (lengthField frame) (kindField frame) (leb-true _ _ first) (leb-true _ _ last) (ltb-false _ _ short) (eqb-true _ _ (not-false _ other)) (not-false _ wrong)
 
 -- The words that a view's fields name are one to six.
-length-numbers : (many : ℕ) (bytes : Bytes) (at : ℕ) → length (numbers16 many bytes at) ≡ many
-unfolding numbers16
-length-numbers zero bytes at = refl
-length-numbers (suc many) bytes at = ap suc (length-numbers many bytes (at + 2))
-
 abbrev pub OneToSix : List ℕ → Type 0
 OneToSix words = (1 ≤ length words) × (length words ≤ mostTargets)
 
 pub named-many : (part : Bytes) → ViewFields part → OneToSix (viewWordsIn part)
 named-many part fields =
-    let many = length-numbers ((length part - 4) / 2) part 4 in
+    let many = length-numbers16 ((length part - 4) / 2) part 4 in
     (omega (arith, many, fields .least, fields .long), omega (arith, many, fields .most, fields .long))
 
 -- So it is of every request that is not refused.

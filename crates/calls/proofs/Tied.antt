@@ -127,7 +127,7 @@ ViewIn NoTicket ticket noted = ⊥
 ViewIn Claiming ticket noted = ⊥
 ViewIn Putting ticket noted = ⊥
 ViewIn GivingBack ticket noted = ⊥
-ViewIn Viewing ticket noted = Unit {0}
+ViewIn Viewing ticket noted = noted .place ≡ none
 ViewIn Viewed ticket noted = HeardViewed ticket noted
 
 -- What is known of a view: it is never decided; each step was a claim, a wait or a return.

@@ -20,7 +20,7 @@ use Rattle.tickets.proofs.Keeping.{viewed-counts}
 use Rattle.tickets.proofs.Seeing.{values-named}
 use Rattle.frames.specs.Answers.{valuesShown}
 use Rattle.plain.specs.Plain.{freshPlain, wordOf}
-use Rattle.calls.specs.Order.{Event, seen, reserved, aView, Noted, wasSeen, Notes, withClaimed, withReleased, withWait, withStep, withPlace, endedBy, hearSeen}
+use Rattle.calls.specs.Order.{Event, seen, reserved, aView, Noted, wasSeen, Notes, withClaimed, withReleased, withWait, withStep, withPlace, endedBy, hearSeen, hearPlace}
 use Rattle.calls.specs.Linearizable.{play, Undecided}
 use Rattle.calls.proofs.Orders.{PlaceAt}
 use Rattle.calls.proofs.Ordered.{PlaceKept, play-reserved, order-reserved, play-full, order-filled}
@@ -87,21 +87,21 @@ module _ (words : List ℕ) (heard : Noted) (turn : Turn (asking (aView words) h
   view-in : (phase : Phase) → ticket .phase ≡ phase → ViewIn phase ticket (asking (aView words) heard)
   view-in phase e = subst (λ phase. ViewIn phase ticket (asking (aView words) heard)) e (known .rest .phase)
 
-  step-notes : ticket .claimed + 1 < ticket .n
+  step-notes : ticket .phase ≡ Viewing → ticket .claimed + 1 < ticket .n
       → (value : ℕ) → Leaving turn plain (advanced (noting ticket value) Viewing (ticket .claimed + 1) (ticket .done)) (Claimed (ticket .claimed + 1))
       → Kept turn
-  step-notes more value left =
+  step-notes viewing more value left =
       stays-as turn (withClaimed (ticket .claimed + 1) watched) left
       (heard-claim turn more) (my-place turn)
       (view-goes (noting ticket value) (words-noting ticket value) (names-noting ticket value) refl (withClaimed (ticket .claimed + 1) watched) refl
-      (up-to-more (ticket .claimed) (heard .claimed) (known .claimed)) (known .released) (known .rest .undecided) (omega (arith, known .rest .swapped)) tt)
+      (up-to-more (ticket .claimed) (heard .claimed) (known .claimed)) (known .released) (known .rest .undecided) (omega (arith, known .rest .swapped)) (view-in Viewing viewing))
 
-  view-waits : (holder : ℕ) → Leaving turn plain (advanced ticket Viewing (ticket .claimed) (ticket .done)) (Waiting (targetAt ticket (ticket .claimed) .word) holder)
+  view-waits : ticket .phase ≡ Viewing → (holder : ℕ) → Leaving turn plain (advanced ticket Viewing (ticket .claimed) (ticket .done)) (Waiting (targetAt ticket (ticket .claimed) .word) holder)
       → Kept turn
-  view-waits holder left =
+  view-waits viewing holder left =
       stays-as turn (withWait watched) left refl (my-place turn)
       (view-goes ticket refl refl refl (withWait watched) refl
-      (known .claimed) (known .released) (known .rest .undecided) (omega (arith, known .rest .swapped)) tt)
+      (known .claimed) (known .released) (known .rest .undecided) (omega (arith, known .rest .swapped)) (view-in Viewing viewing))
 
   -- The last claim: the place is reserved, and all values noted are the plain words there.
   step-notes-last : ticket .phase ≡ Viewing → ticket .claimed + 1 ≡ ticket .n
@@ -113,7 +113,7 @@ module _ (words : List ℕ) (heard : Noted) (turn : Turn (asking (aView words) h
       let none-done : ticket .done ≡ 0 = fit turn .none-done (ap claims viewing) in
       left-as turn (n .order ++ (reserved team ∷ [])) (some placed-now) (n .ended)
       (still turn (play-reserved (n .order) (good .ordered) team) left)
-      (heard-last turn last)
+      (heard-last turn last ∙ ap (hearPlace n team (withClaimed (ticket .claimed + 1) watched)) (view-in Viewing viewing))
       (view-goes (noting ticket value) (words-noting ticket value) (names-noting ticket value) refl placed-now refl
       (up-to-more (ticket .claimed) (heard .claimed) (known .claimed)) (none-released turn (ap claims viewing)) (known .rest .undecided) (omega (arith, known .rest .swapped))
       record {
@@ -169,8 +169,8 @@ module _ (words : List ℕ) (heard : Noted) (turn : Turn (asking (aView words) h
   view-kept (put-last putting last left) = absurd (view-in Putting putting)
   view-kept (returned-one giving more left) = absurd (view-in GivingBack giving)
   view-kept (returned-last giving last left) = absurd (view-in GivingBack giving)
-  view-kept (viewed-one viewing more value plain-is left) = step-notes more value left
+  view-kept (viewed-one viewing more value plain-is left) = step-notes viewing more value left
   view-kept (viewed-last viewing last value matches left) = step-notes-last viewing last value matches left
-  view-kept (view-waiting viewing holder other left) = view-waits _ left
+  view-kept (view-waiting viewing holder other left) = view-waits viewing _ left
   view-kept (view-returned-one viewed more left) = view-returns viewed left
   view-kept (view-returned-last viewed last left) = step-sees viewed last left

@@ -161,11 +161,16 @@ abbrev pub decide : Notes → ℕ → Verdict → Noted → Asked → Notes
 decide n team verdict ticket (anEdit edit) = noteEvent (noteTicket n team (withDecision verdict (n .order) ticket)) (decided verdict edit)
 decide n team verdict ticket (aView words) = noteOutOfTurn n
 
--- The last claim: an edit is "decided as granted at the step answered Claimed with the number of its edit's targets"; "a finished view takes its place
--- at its last claim", and reserves it here.
+-- A finished view takes its place "at its last claim": it reserves it there, once.
+abbrev pub hearPlace : Notes → ℕ → Noted → Option (List Event) → Notes
+hearPlace n team ticket none = noteEvent (noteTicket n team (withPlace (n .order) ticket)) (reserved team)
+hearPlace n team ticket (some before) = noteOutOfTurn n
+
+-- The last claim: an edit is "decided as granted at the step answered Claimed with the number of its edit's targets"; a
+-- view has its place here.
 abbrev pub hearAllClaimed : Notes → ℕ → Noted → Asked → Notes
 hearAllClaimed n team ticket (anEdit edit) = decide n team granted ticket (anEdit edit)
-hearAllClaimed n team ticket (aView words) = noteEvent (noteTicket n team (withPlace (n .order) ticket)) (reserved team)
+hearAllClaimed n team ticket (aView words) = hearPlace n team ticket (ticket .place)
 
 abbrev pub hearClaimed : Notes → ℕ → Noted → ℕ → Notes
 hearClaimed n team ticket k =
@@ -184,11 +189,16 @@ hearSeen n team ticket (aView words) (some before) values = noteEnd (fillPlace n
 hearSeen n team ticket (aView words) none values = noteOutOfTurn n
 hearSeen n team ticket (anEdit edit) place values = noteOutOfTurn n
 
+-- An edit puts; a view can't get this answer.
+abbrev pub hearPut : Notes → ℕ → Noted → Asked → ℕ → Notes
+hearPut n team ticket (anEdit edit) k = noteTicket n team (withReleased k ticket)
+hearPut n team ticket (aView words) k = noteOutOfTurn n
+
 abbrev pub hearStepAnswer : Notes → ℕ → Noted → StepAnswer → Notes
 hearStepAnswer n team ticket (Claimed k) = hearClaimed n team ticket k
 hearStepAnswer n team ticket (Waiting word holder) = noteTicket n team (withWait ticket)
 hearStepAnswer n team ticket (Found word) = decide n team stale (withFound word ticket) (ticket .asked)
-hearStepAnswer n team ticket (Put k) = noteTicket n team (withReleased k ticket)
+hearStepAnswer n team ticket (Put k) = hearPut n team ticket (ticket .asked) k
 hearStepAnswer n team ticket (Returned k) = noteTicket n team (withReleased k ticket)
 hearStepAnswer n team ticket (Granted tries) = noteEnd n team (endedBy ticket (wasGranted tries))
 hearStepAnswer n team ticket (Stale word tries) = hearStale n team ticket (ticket .asked) (ticket .found) (wasStale word tries)

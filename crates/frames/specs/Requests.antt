@@ -58,7 +58,7 @@ lookKind = 6
 abbrev pub viewKind : ℕ
 viewKind = 7
 
--- Add (length 24), Correct (28), Strike (26), Move (24), Step (4), Look (4); 0 for no kind.
+-- Add (length 24), Correct (28), Strike (26), Move (24), Step (4), Look (4); 0 for a view, whose length varies, and for no kind.
 abbrev pub lengthOfKind : ℕ → ℕ
 lengthOfKind kind =
     cond (eqb kind addKind) 24

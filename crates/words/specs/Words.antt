@@ -29,10 +29,11 @@ markOf team = 2 ^ 63 + team
 abbrev pub teamCount : ℕ
 teamCount = 16
 
--- "The team is the mark less 2^63 if that is below 16, else 65,535": who holds a word, by what stands in it.
+-- The number that is no team's.
 abbrev pub nobody : ℕ
 nobody = 65535
 
+-- Who holds a word, by what stands in it: "the team is the mark less 2^63 if that is below 16, else 65,535".
 abbrev pub holderOf : ℕ → ℕ
 holderOf word = cond (isHeld word) (cond (ltb (word - 2 ^ 63) teamCount) (word - 2 ^ 63) nobody) nobody
 
