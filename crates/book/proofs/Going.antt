@@ -5,17 +5,23 @@ use mathlib.Core.Bool.{Bool, true, false, cond, not, false≢true}
 use mathlib.Core.List.{List, [], _∷_}
 use native.Mathlib.Omega.{arith}
 use native.Mathlib.Decide.{ℕ-discrete}
-use borrow.Author.Tests.{eq-eqb, ne-eqb, lt-ltb, le-ltb}
+use borrow.Author.Tests.{eq-eqb, ne-eqb, lt-ltb, le-ltb, eqb-true, ltb-true, ltb-false}
 use lib.Dec.{eqb, ltb, lit<}
 use lib.ListN.{length, length-drop}
 use Rattle.words.specs.Tests.{distinct}
 use Rattle.words.specs.Words.{Words, wordsInBook, teamCount, mostTargets}
 use Rattle.words.proofs.Tests.{split}
+use Rattle.tickets.specs.declared.Phase.{Phase}
+use Rattle.tickets.specs.declared.Phase.the-variants.{NoTicket, Claiming, Putting, GivingBack, Viewing, Viewed}
 use Rattle.tickets.specs.declared.Ticket.{Ticket}
 use Rattle.tickets.specs.declared.EditAnswer.{EditAnswer}
 use Rattle.tickets.specs.declared.EditAnswer.the-variants as EditAnswer
-use Rattle.tickets.specs.Tickets.{noTicket, hasTicket, wellMade}
+use Rattle.tickets.specs.Tickets.{noTicket, hasTicket, isView, wellMade}
+use Rattle.tickets.specs.declared.Stepped.{Stepped}
+use Rattle.tickets.specs.declared.StepAnswer.{StepAnswer}
+use Rattle.tickets.specs.Steps as Steps
 use Rattle.tickets.specs.Steps.{finishes, afterAnswer, stepOf, lookOf}
+use Rattle.tickets.specs.Going.{isEdit}
 use Rattle.edits.specs.declared.Edit.{Edit}
 use Rattle.edits.specs.Ranges.{editAllowed}
 use Rattle.edits.specs.declared.View.{View}
@@ -32,15 +38,14 @@ use Rattle.frames.specs.declared.Reading.the-variants as Reading
 use Rattle.frames.specs.declared.ViewRead.{ViewRead}
 use Rattle.frames.specs.Numbers.{Bytes, number16}
 use Rattle.frames.specs.Requests.{headBytes, partAfterKind, addKind, stepKind, lookKind, viewKind, lengthOfKind, teamIn, editOfKind, viewWordsIn}
-use Rattle.frames.specs.Fields.{editRead, readAs, viewRead, ViewFields, Whole}
+use Rattle.frames.specs.Fields.{editRead, readAs, viewRead, ViewFields, FieldsOf, Whole}
 use Rattle.frames.proofs.Headers.{fields-of-kind, fields-of-view}
 use Rattle.decoder.proofs.Decoded.{only-allowed}
 use Rattle.calls.proofs.Refusing.{named-many}
 use Rattle.calls.specs.declared.Aim.{Aim}
 use Rattle.calls.specs.declared.Aim.the-variants as Aim
-use Rattle.calls.specs.declared.Outcome.the-variants as Outcome
 use Rattle.calls.specs.declared.Settled.{Settled}
-use Rattle.calls.specs.Way.{aimBy, AimKnown, SlotKnown, TeamFrame, settled, lookOutcome, lookSettled, openSettled, readingSettled, viewSettled, stepSettled, anewSettled, ViewStands, EditFields, outcomeSettled, OutcomeKnown, teamSettled}
+use Rattle.calls.specs.Way.{aimBy, AimKnown, SlotKnown, TeamFrame, slotOf, settled, lookAnswer, openSettled, readingSettled, viewSettled, stepSettled, newSettled, EditFields, teamSettled, stepsEdit, opensEdit, lookSettled, settledBy}
 
 -- Where a whole frame goes.
 pub aim-look : (frame : Bytes) (kind : ℕ) → kind ≡ lookKind → Aim.Look ≡ aimBy frame (Header.Kind kind)
@@ -58,29 +63,17 @@ slot-known frame (Aim.Refused number) known = tt
 slot-known frame Aim.Look known = tt
 slot-known frame (Aim.Team kind team) known = known .2
 
+pub slot-below : (frame : Bytes) (aim : Aim) → AimKnown frame aim → slotOf aim < teamCount
+slot-below frame (Aim.Refused number) known = lit< tt
+slot-below frame Aim.Look known = lit< tt
+slot-below frame (Aim.Team kind team) known = known .2
+
 -- A look, or refusal 10.
-pub look-shown : (words : Words) (word : ℕ) → word < wordsInBook → Outcome.Looked (lookOf words word) ≡ lookOutcome words word
-look-shown words word l = ap (λ b. cond b (Outcome.Looked (lookOf words word)) (Outcome.Refused 10)) (sym (lt-ltb word wordsInBook l))
+pub look-shown : (words : Words) (word : ℕ) → word < wordsInBook → Answer.Look (lookOf words word) ≡ lookAnswer words word
+look-shown words word l = ap (λ b. cond b (Answer.Look (lookOf words word)) (Answer.Refused 10)) (sym (lt-ltb word wordsInBook l))
 
-pub look-outside : (words : Words) (word : ℕ) → wordsInBook ≤ word → Outcome.Refused 10 ≡ lookOutcome words word
-look-outside words word l = ap (λ b. cond b (Outcome.Looked (lookOf words word)) (Outcome.Refused 10)) (sym (le-ltb word wordsInBook l))
-
--- Its outcome settles the slot as the definition says, and asks for nothing.
-pub look-settles : (words : Words) (ticket : Ticket) (part : Bytes) (word : ℕ) → outcomeSettled words ticket part (lookOutcome words word) ≡ (lookSettled words ticket word, words)
-unfolding lookSettled
-look-settles words ticket part word = go (ltb word wordsInBook)
-  where
-    go : (inside : Bool) → outcomeSettled words ticket part (cond inside (Outcome.Looked (lookOf words word)) (Outcome.Refused 10))
-        ≡ (settled ticket (cond inside (Answer.Look (lookOf words word)) (Answer.Refused 10)), words)
-    go true = refl
-    go false = refl
-
-pub look-known : (words : Words) (ticket : Ticket) (part : Bytes) (word : ℕ) → OutcomeKnown ticket part (lookOutcome words word)
-look-known words ticket part word = go (ltb word wordsInBook)
-  where
-    go : (inside : Bool) → OutcomeKnown ticket part (cond inside (Outcome.Looked (lookOf words word)) (Outcome.Refused 10))
-    go true = tt
-    go false = tt
+pub look-outside : (words : Words) (word : ℕ) → wordsInBook ≤ word → Answer.Refused 10 ≡ lookAnswer words word
+look-outside words word l = ap (λ b. cond b (Answer.Look (lookOf words word)) (Answer.Refused 10)) (sym (le-ltb word wordsInBook l))
 
 -- An edit that is read is allowed.
 pub read-allowed : (edit read : Edit) → editRead edit ≡ EditRead.Is read → editAllowed read ≡ true
@@ -108,6 +101,41 @@ by-kind P p1 p2 p3 p4 p5 p6 kind first last = elim (ℕ-discrete kind 1) [
 long-enough : (kind : ℕ) → addKind ≤ kind → kind ≤ lookKind → 1 < lengthOfKind kind - 2
 long-enough = by-kind (λ kind. 1 < lengthOfKind kind - 2) (lit< tt) (lit< tt) (lit< tt) (lit< tt) (lit< tt) (lit< tt)
 
+-- What the test of an edit that opens a ticket says,
+pub opens-said : (ticket : Ticket) (kind : ℕ) → opensEdit ticket kind ≡ true → (kind < stepKind) × (hasTicket (ticket .phase) ≡ false)
+opens-said ticket kind opens = go (ltb kind stepKind) (hasTicket (ticket .phase)) refl opens
+  where
+    go : (below stands : Bool) → ltb kind stepKind ≡ below → cond below (not stands) false ≡ true → (kind < stepKind) × (stands ≡ false)
+    go true true is opens = absurd (false≢true opens)
+    go true false is opens = (ltb-true _ _ is, refl)
+    go false stands is opens = absurd (false≢true opens)
+
+opens-not : (ticket : Ticket) (kind : ℕ) → opensEdit ticket kind ≡ false → hasTicket (ticket .phase) ≡ false → stepKind ≤ kind
+opens-not ticket kind other none = go (ltb kind stepKind) (hasTicket (ticket .phase)) refl other none
+  where
+    go : (below stands : Bool) → ltb kind stepKind ≡ below → cond below (not stands) false ≡ false → stands ≡ false → stepKind ≤ kind
+    go true true is other none = absurd (false≢true (sym none))
+    go true false is other none = absurd (false≢true (sym other))
+    go false stands is other none = ltb-false _ _ is
+
+-- and that of an edit's step.
+pub steps-said : (ticket : Ticket) (known : Bool) (kind : ℕ) → stepsEdit ticket known kind ≡ true → (kind ≡ stepKind) × (known ≡ true) × (isEdit (ticket .phase) ≡ true)
+steps-said ticket known kind steps = go (eqb kind stepKind) known (isEdit (ticket .phase)) refl steps
+  where
+    go : (step known edit : Bool) → eqb kind stepKind ≡ step → cond step (cond known edit false) false ≡ true → (kind ≡ stepKind) × (known ≡ true) × (edit ≡ true)
+    go true true edit is steps = (eqb-true _ _ is, refl, steps)
+    go true false edit is steps = absurd (false≢true steps)
+    go false known edit is steps = absurd (false≢true steps)
+
+-- An edit's ticket is a ticket, and no view.
+pub edit-stands : (phase : Phase) → isEdit phase ≡ true → (hasTicket phase ≡ true) × (isView phase ≡ false)
+edit-stands NoTicket edit = absurd (false≢true edit)
+edit-stands Claiming edit = (refl, refl)
+edit-stands Putting edit = (refl, refl)
+edit-stands GivingBack edit = (refl, refl)
+edit-stands Viewing edit = absurd (false≢true edit)
+edit-stands Viewed edit = absurd (false≢true edit)
+
 -- A team's frame, by its ticket and kind.
 module _ (words : Words) (ticket : Ticket) (part : Bytes) (kind team : ℕ) where
   pub team-badly-made : hasTicket (ticket .phase) ≡ true → wellMade ticket ≡ false → _≡_ {A = Settled × Words} (settled ticket (Answer.Refused 7), words) (teamSettled words ticket part kind team)
@@ -126,60 +154,34 @@ module _ (words : Words) (ticket : Ticket) (part : Bytes) (kind team : ℕ) wher
   unfolding teamSettled
   team-without h e = rw (h, eq-eqb kind stepKind e) refl
 
-  pub team-opens : hasTicket (ticket .phase) ≡ false → (kind ≡ stepKind → ⊥) → anewSettled words ticket part kind team ≡ teamSettled words ticket part kind team
-  unfolding teamSettled
-  team-opens h n = rw (h, ne-eqb kind stepKind n) refl
+  pub team-opens-view : hasTicket (ticket .phase) ≡ false → kind ≡ viewKind → _≡_ {A = Settled × Words} (viewSettled ticket (viewRead (number16 part 2) (viewWordsIn part)), words) (teamSettled words ticket part kind team)
+  unfolding teamSettled newSettled
+  team-opens-view h e = rw (h, ne-eqb kind stepKind (λ step. omega (arith, step, e)), eq-eqb kind viewKind e) refl
 
-  -- A ticket made anew: a view stepped, a view opened, or an edit.
-  pub anew-steps : kind ≡ stepKind → stepSettled (stepOf words ticket team) ≡ anewSettled words ticket part kind team
-  unfolding anewSettled
-  anew-steps e = rw (eq-eqb kind stepKind e) refl
+  pub team-opens-edit : opensEdit ticket kind ≡ true → _≡_ {A = Settled × Words} (openSettled ticket (editRead (editOfKind kind part)), words) (teamSettled words ticket part kind team)
+  unfolding teamSettled newSettled
+  team-opens-edit opens =
+      let (below, none) = opens-said ticket kind opens in
+      rw (none, ne-eqb kind stepKind (λ step. omega (arith, step, below)), ne-eqb kind viewKind (λ view. omega (arith, view, below))) refl
 
-  pub anew-views : (kind ≡ stepKind → ⊥) → kind ≡ viewKind → _≡_ {A = Settled × Words} (viewSettled ticket (viewRead (number16 part 2) (viewWordsIn part)), words) (anewSettled words ticket part kind team)
-  unfolding anewSettled
-  anew-views n e = rw (ne-eqb kind stepKind n, eq-eqb kind viewKind e) refl
+  -- What is known of a frame that opens an edit's ticket or a view.
+  pub edit-fields : opensEdit ticket kind ≡ true → TeamFrame words part kind team → EditFields part kind
+  edit-fields opens known =
+      let below = opens-said ticket kind opens .0 in
+      record {
+        first = known .first;
+        last = below;
+        long = rw (ne-eqb kind viewKind (λ view. omega (arith, view, below))) at (known .fields);
+      }
 
-  pub anew-edits : (kind ≡ stepKind → ⊥) → (kind ≡ viewKind → ⊥) → _≡_ {A = Settled × Words} (openSettled ticket (editRead (editOfKind kind part)), words) (anewSettled words ticket part kind team)
-  unfolding anewSettled
-  anew-edits n v = rw (ne-eqb kind stepKind n, ne-eqb kind viewKind v) refl
+  pub view-kind : opensEdit ticket kind ≡ false → hasTicket (ticket .phase) ≡ false → (kind ≡ stepKind → ⊥) → TeamFrame words part kind team → kind ≡ viewKind
+  view-kind other none no-step known =
+      let above = opens-not ticket kind other none in
+      let last = known .last in
+      omega (arith, above, last, no-step, known .no-look)
 
-  -- What is known of it.
-  pub known-view : kind ≡ stepKind → ViewStands ticket team → OutcomeKnown ticket part (Outcome.Anew kind team)
-  known-view e stands = rw (eq-eqb kind stepKind e) stands
-
-  pub known-opens : (kind ≡ stepKind → ⊥) → TeamFrame words part kind team → OutcomeKnown ticket part (Outcome.Anew kind team)
-  known-opens n known = elim (ℕ-discrete kind viewKind) [
-    | yes e ↦ rw (ne-eqb kind stepKind n, eq-eqb kind viewKind e) (rw (eq-eqb kind viewKind e) at (known .fields))
-    | no v ↦
-        let last = known .last in
-        let no-look = known .no-look in
-        rw (ne-eqb kind stepKind n, ne-eqb kind viewKind v) record {
-          first = known .first;
-          last = omega (arith, n, v);
-          long = rw (ne-eqb kind viewKind v) at (known .fields);
-        }
-  ]
-
-  -- And what follows from what is known.
-  pub stands-known : kind ≡ stepKind → OutcomeKnown ticket part (Outcome.Anew kind team) → ViewStands ticket team
-  stands-known e known = rw (eq-eqb kind stepKind e) at known
-
-  pub view-known : (kind ≡ stepKind → ⊥) → kind ≡ viewKind → OutcomeKnown ticket part (Outcome.Anew kind team) → ViewFields part
-  view-known n e known = rw (ne-eqb kind stepKind n, eq-eqb kind viewKind e) at known
-
-  pub edit-known : (kind ≡ stepKind → ⊥) → (kind ≡ viewKind → ⊥) → OutcomeKnown ticket part (Outcome.Anew kind team) → EditFields part kind
-  edit-known n v known = rw (ne-eqb kind stepKind n, ne-eqb kind viewKind v) at known
-
-  -- The part of a frame that opens a ticket is not empty.
-  pub opens-known : (kind ≡ stepKind → ⊥) → OutcomeKnown ticket part (Outcome.Anew kind team) → 0 < length part
-  opens-known n known = elim (ℕ-discrete kind viewKind) [
-    | yes e ↦ let fields = view-known n e known in omega (arith, fields .long)
-    | no v ↦
-        let fields = edit-known n v known in
-        let last = fields .last in
-        let some = long-enough kind (fields .first) (omega arith) in
-        omega (arith, some, fields .long)
-  ]
+  pub view-fields : kind ≡ viewKind → TeamFrame words part kind team → ViewFields part
+  view-fields e known = rw (eq-eqb kind viewKind e) at (known .fields)
 
 -- An edit read opens its ticket, whose number of targets Standing tells.
 pub opened-settles : (ticket : Ticket) (edit : Edit) → settled (openedTicket edit) (Answer.Standing (openedTicket edit .n)) ≡ openSettled ticket (EditRead.Is edit)
@@ -240,6 +242,17 @@ team-inside frame kind whole = elim (ℕ-discrete kind viewKind) [
       subst (λ (l : ℕ). 1 < l) (sym (fields-of-kind whole v)) (long-enough kind (whole .first) (omega (arith, v)))
 ]
 
+-- What is known of a team's frame, by its part after the kind.
+pub team-known-frame : (words : Words) (frame : Bytes) (kind team : ℕ) (part : Bytes) → length words ≡ wordsInBook → AimKnown frame (Aim.Team kind team) → part ≡ partAfterKind frame → TeamFrame words part kind team
+team-known-frame words frame kind team part book known is = record {
+  book = book;
+  first = known .0 .first;
+  last = known .0 .last;
+  no-look = known .1;
+  fields = subst (FieldsOf kind) (sym is) (known .0 .fields);
+  team-known = known .2;
+}
+
 -- A frame with a part after its kind has a length and a kind.
 pub opened-head : (frame : Bytes) → 0 < length (partAfterKind frame) → headBytes ≤ length frame
 opened-head frame some = let left : length (partAfterKind frame) ≡ length frame - headBytes = length-drop headBytes frame in omega (arith, left)
@@ -253,3 +266,50 @@ gone-after ticket (EditAnswer.Put many) ends = absurd (false≢true ends)
 gone-after ticket (EditAnswer.Returned many) ends = absurd (false≢true ends)
 gone-after ticket (EditAnswer.Granted tries) ends = refl
 gone-after ticket (EditAnswer.Stale word tries) ends = refl
+
+-- What a refused frame and a look settle.
+pub refused-by : (words : Words) (ticket : Ticket) (frame : Bytes) (number : ℕ) → _≡_ {A = Settled × Words} (settled ticket (Answer.Refused number), words) (settledBy words ticket frame (Aim.Refused number))
+unfolding settledBy
+refused-by words ticket frame number = refl
+
+pub look-by : (words : Words) (ticket : Ticket) (frame : Bytes) (word : ℕ) → word ≡ number16 (partAfterKind frame) 0
+    → _≡_ {A = Settled × Words} (settled ticket (lookAnswer words word), words) (settledBy words ticket frame Aim.Look)
+unfolding settledBy lookSettled
+look-by words ticket frame word is = λ i. (settled ticket (lookAnswer words (is i)), words)
+
+-- A team's frame whose ticket is stepped: what the swap found settles it.
+pub step-by : (words : Words) (ticket : Ticket) (frame : Bytes) (kind team found : ℕ) {after : Ticket} {answer : StepAnswer} {swapped : Words}
+    → hasTicket (ticket .phase) ≡ true → wellMade ticket ≡ true → kind ≡ stepKind
+    → _≡_ {A = Stepped × Words} (Steps.settled ticket found, swapped) (stepOf words ticket team)
+    → Steps.stepped after answer ≡ Steps.settled ticket found
+    → _≡_ {A = Settled × Words} (settled after (Answer.Step answer), swapped) (settledBy words ticket frame (Aim.Team kind team))
+unfolding settledBy
+step-by words ticket frame kind team found {swapped = swapped} stands made step swaps settles =
+    ap stepSettled ((λ i. (settles i, swapped)) ∙ swaps) ∙ team-steps words ticket (partAfterKind frame) kind team stands made step
+
+-- An edit that opens a ticket, read from the part after its kind, or refused.
+module _ (words : Words) (ticket : Ticket) (frame : Bytes) (kind team : ℕ) (part : Bytes) (read : EditRead) (opens : opensEdit ticket kind ≡ true) (after : part ≡ partAfterKind frame) (is-read : read ≡ editRead (editOfKind kind part)) where
+  reads-by : _≡_ {A = Settled × Words} (openSettled ticket read, words) (settledBy words ticket frame (Aim.Team kind team))
+  unfolding settledBy
+  reads-by =
+      (λ i. (openSettled ticket (is-read i), words))
+      ∙ (λ i. (openSettled ticket (editRead (editOfKind kind (after i))), words))
+      ∙ team-opens-edit words ticket (partAfterKind frame) kind team opens
+
+  pub opened-by : (edit : Edit) (opened : Ticket) → read ≡ EditRead.Is edit → opened ≡ openedTicket edit
+      → _≡_ {A = Settled × Words} (settled opened (Answer.Standing (opened .n)), words) (settledBy words ticket frame (Aim.Team kind team))
+  opened-by edit opened is opens-it =
+      (λ i. (settled (opens-it i) (Answer.Standing (opens-it i .n)), words))
+      ∙ (λ i. (opened-settles ticket edit i, words))
+      ∙ (λ i. (openSettled ticket (sym is i), words))
+      ∙ reads-by
+
+  pub unopened-by : (number : ℕ) → read ≡ EditRead.Refused number → _≡_ {A = Settled × Words} (settled ticket (Answer.Refused number), words) (settledBy words ticket frame (Aim.Team kind team))
+  unopened-by number is = (λ i. (refused-settles ticket number i, words)) ∙ (λ i. (openSettled ticket (sym is i), words)) ∙ reads-by
+
+-- Any other frame of a team.
+pub team-by : (words : Words) (ticket : Ticket) (frame : Bytes) (kind team : ℕ) (part : Bytes) {done : Settled} {swapped : Words} → part ≡ partAfterKind frame
+    → _≡_ {A = Settled × Words} (done, swapped) (teamSettled words ticket part kind team)
+    → _≡_ {A = Settled × Words} (done, swapped) (settledBy words ticket frame (Aim.Team kind team))
+unfolding settledBy
+team-by words ticket frame kind team part after settles = settles ∙ ap (λ l. teamSettled words ticket l kind team) after

@@ -1,12 +1,13 @@
 // The call: a frame in, an answer out, over the lent book and the tickets.
 ghost use mathlib.Core.Path.{_≡_};
-ghost use mathlib.Core.Bool.{Bool, true};
+ghost use mathlib.Core.Bool.{Bool, true, false};
 ghost use Prim.Native.Nat.{_+_, _-_, _≤_, _<_};
 ghost use lib.ListN.{length};
-ghost use Rattle.words.specs.Words.{wordsInBook, teamCount};
-ghost use Rattle.tickets.specs.Tickets.{wellMade};
+ghost use Rattle.words.specs.Words.{wordsInBook, teamCount, mostTargets};
+ghost use Rattle.tickets.specs.Tickets.{isView, wellMade};
 ghost use Rattle.tickets.specs.Steps.{asStep, afterAnswer, AnswerFits, stepOf};
-ghost use Rattle.frames.specs.Requests.{partAfterKind, editOfKind, viewWordsIn};
+ghost use Rattle.tickets.specs.Going.{nextOf, wentAnswer};
+ghost use Rattle.frames.specs.Requests.{editOfKind, viewWordsIn};
 ghost use Rattle.frames.specs.Numbers.{number16};
 ghost use Rattle.frames.specs.Fields.{Whole, ViewFields, editRead, viewRead};
 ghost use Rattle.frames.specs.Answers.{longestAnswer, answerFrame, written};
@@ -14,12 +15,10 @@ ghost use Rattle.frames.specs.declared.Answer.the-variants as Answer;
 ghost use Rattle.frames.specs.declared.Header.the-variants as Header;
 ghost use Rattle.calls.specs.Call.{callOf};
 ghost use Rattle.calls.specs.declared.Stop.the-variants.{MoreInput};
-ghost use Rattle.calls.specs.declared.Outcome.the-variants as Outcome;
-ghost use Rattle.calls.specs.Stream.{nextAt, NextInside, roomIn, withRoom, streamed, stoppedOr, streamFrom, streamOf};
-ghost use Rattle.calls.specs.Way.{aimBy, aimOf, AimKnown, SlotKnown, TeamFrame, slotOf, settled, lookOutcome, openSettled, viewSettled, stepSettled, ViewStands, EditFields, outcomeSettled, OutcomeKnown, SlotWellMade, slotWellMade, wellMadeFrom, teamSettled, settledBy};
+ghost use Rattle.calls.specs.Stream.{nextAt, NextInside, PutAt, streamed, stoppedOr, streamFrom, streamOf};
+ghost use Rattle.calls.specs.Way.{aimBy, aimOf, AimKnown, SlotKnown, TeamFrame, slotOf, settled, lookAnswer, openSettled, viewSettled, stepSettled, EditFields, SlotWellMade, TableWellMade, slotWellMade, wellMadeFrom, teamSettled, stepsEdit, opensEdit, settledBy};
 use calls::Aim;
 use calls::Next;
-use calls::Outcome;
 use calls::Reply;
 use calls::Settled;
 use calls::Stop;
@@ -75,16 +74,24 @@ fn slot_of(aim: Aim) -> usize
     }
 }
 
-fn look_at(book: &[u64], part: &[u8]) -> Outcome
-    requires { ⌜ (length (now book) ≡ wordsInBook) × (1 < length (now part)) ⌝ }
-    ensures { λ r. ⌜ r ≡ lookOutcome (now (book .entry)) (number16 (now (part .entry)) 0) ⌝ }
+fn refused(ticket: Ticket, number: u16) -> Settled
+    ensures { λ r. ⌜ r ≡ settled ticket (Answer.Refused number) ⌝ }
 {
-    let word = frames::numbers::read16(part, 0);
+    Settled {
+        ticket: ticket,
+        answer: Answer::Refused(number),
+    }
+}
+
+fn look_at(book: &[u64], word: u16) -> Answer
+    requires { ⌜ length (now book) ≡ wordsInBook ⌝ }
+    ensures { λ r. ⌜ r ≡ lookAnswer (now (book .entry)) word ⌝ }
+{
     if (word as usize) < Limits::WORDS {
         let answer = tickets::look(book, word);
-        return Outcome::Looked(answer);
+        return Answer::Look(answer);
     }
-    Outcome::Refused(Refusal::RANGE)
+    Answer::Refused(Refusal::RANGE)
 }
 
 fn open_edit(ticket: Ticket, part: &[u8], kind: u16) -> Settled
@@ -130,7 +137,7 @@ fn open_view(ticket: Ticket, part: &[u8]) -> Settled
 }
 
 fn step_view(book: &mut [u64], ticket: Ticket, team: u16) -> Settled
-    requires { ⌜ (length (now book) ≡ wordsInBook) × ViewStands ticket team ⌝ }
+    requires { ⌜ (length (now book) ≡ wordsInBook) × (wellMade ticket ≡ true) × (isView (ticket .phase) ≡ true) × (team < teamCount) ⌝ }
     ensures { λ r. ⌜ (r, now (book .exit)) ≡ stepSettled (stepOf (now (book .entry)) ticket team) ⌝ }
 {
     let stepped = tickets::view_step(book, ticket, team);
@@ -140,6 +147,35 @@ fn step_view(book: &mut [u64], ticket: Ticket, team: u16) -> Settled
         ticket: next,
         answer: Answer::Step(answer),
     }
+}
+
+// What an edit's answer leaves.
+fn step_settled(ticket: Ticket, step: EditAnswer) -> Settled
+    requires { ⌜ AnswerFits ticket step ⌝ }
+    ensures { λ r. ⌜ r ≡ settled (afterAnswer ticket step) (Answer.Step (asStep step)) ⌝ }
+{
+    if step.finishes() {
+        return Settled {
+            ticket: Ticket::none(),
+            answer: Answer::Step(step.as_step()),
+        };
+    }
+    Settled {
+        ticket: ticket.after(step),
+        answer: Answer::Step(step.as_step()),
+    }
+}
+
+// A step of any ticket.
+fn step_any(book: &mut [u64], ticket: Ticket, team: u16) -> Settled
+    requires { ⌜ (length (now book) ≡ wordsInBook) × (wellMade ticket ≡ true) × (team < teamCount) ⌝ }
+    ensures { λ r. ⌜ (r, now (book .exit)) ≡ stepSettled (stepOf (now (book .entry)) ticket team) ⌝ }
+{
+    if ticket.is_view() {
+        return step_view(book, ticket, team);
+    }
+    let step = tickets::step(book, ticket, team);
+    step_settled(ticket, step)
 }
 
 // Whether a ticket in its slot is well made; a slot without one passes.
@@ -198,7 +234,17 @@ fn known_well_made(ticket: Ticket, known: bool) -> bool
     copied(ticket).well_made()
 }
 
-// A step, an edit or a view of a team, by the ticket that it has or hasn't.
+// Whether a frame is an edit of a team without a ticket.
+fn opens_edit(ticket: Ticket, kind: u16) -> bool
+    ensures { λ r. ⌜ r ≡ opensEdit ticket kind ⌝ }
+{
+    if kind < Kind::STEP {
+        return !ticket.stands();
+    }
+    false
+}
+
+// A team's frame, but an edit that opens a ticket.
 fn team_frame(
     book: &mut [u64],
     ticket: Ticket,
@@ -206,94 +252,56 @@ fn team_frame(
     part: &[u8],
     kind: u16,
     team: u16,
-) -> Outcome
-    requires { ⌜ TeamFrame (now book) (now part) kind team × (known ≡ true → SlotWellMade ticket) ⌝ }
-    ensures { λ r. ⌜ (outcomeSettled (now (book .exit)) ticket (now (part .entry)) r ≡ teamSettled (now (book .entry)) ticket (now (part .entry)) kind team) × OutcomeKnown ticket (now (part .entry)) r ⌝ }
+) -> Settled
+    requires { ⌜ TeamFrame (now book) (now part) kind team × (known ≡ true → SlotWellMade ticket) × (opensEdit ticket kind ≡ false) ⌝ }
+    ensures { λ r. ⌜ (r, now (book .exit)) ≡ teamSettled (now (book .entry)) ticket (now (part .entry)) kind team ⌝ }
 {
     if ticket.stands() {
         if !known_well_made(ticket, known) {
-            return Outcome::Refused(Refusal::TICKET);
+            return refused(ticket, Refusal::TICKET);
         }
         if kind == Kind::STEP {
-            if ticket.is_view() {
-                return Outcome::Anew(kind, team);
-            }
-            let step = tickets::step(book, ticket, team);
-            return Outcome::Stepped(step);
+            return step_any(book, ticket, team);
         }
-        return Outcome::Refused(Refusal::STANDING);
+        return refused(ticket, Refusal::STANDING);
     }
     if kind == Kind::STEP {
-        return Outcome::Refused(Refusal::NO_TICKET);
+        return refused(ticket, Refusal::NO_TICKET);
     }
-    Outcome::Anew(kind, team)
+    open_view(ticket, part)
 }
 
-// What an aimed frame comes to.
-fn settle(book: &mut [u64], ticket: Ticket, known: bool, frame: &[u8], aim: Aim) -> Outcome
-    requires { ⌜ (length (now book) ≡ wordsInBook) × AimKnown (now frame) aim × (known ≡ true → SlotWellMade ticket) ⌝ }
-    ensures { λ r. ⌜ (outcomeSettled (now (book .exit)) ticket (partAfterKind (now (frame .entry))) r ≡ settledBy (now (book .entry)) ticket (now (frame .entry)) aim) × OutcomeKnown ticket (partAfterKind (now (frame .entry))) r ⌝ }
+// A team's frame.
+fn team_settled(book: &mut [u64], ticket: Ticket, part: &[u8], kind: u16, team: u16) -> Settled
+    requires { ⌜ TeamFrame (now book) (now part) kind team ⌝ }
+    ensures { λ r. ⌜ (r, now (book .exit)) ≡ teamSettled (now (book .entry)) ticket (now (part .entry)) kind team ⌝ }
+{
+    if opens_edit(ticket, kind) {
+        return open_edit(ticket, part, kind);
+    }
+    team_frame(book, ticket, false, part, kind, team)
+}
+
+// What an aimed frame makes of the ticket in its slot and of the words, and its answer.
+fn settle(book: &mut [u64], ticket: Ticket, frame: &[u8], aim: Aim) -> Settled
+    requires { ⌜ (length (now book) ≡ wordsInBook) × AimKnown (now frame) aim ⌝ }
+    ensures { λ r. ⌜ (r, now (book .exit)) ≡ settledBy (now (book .entry)) ticket (now (frame .entry)) aim ⌝ }
 {
     match aim {
-        Aim::Refused(number) => Outcome::Refused(number),
+        Aim::Refused(number) => refused(ticket, number),
         Aim::Look => {
             let part = frames::head::part_after_kind(frame);
-            look_at(book, part)
+            let word = frames::numbers::read16(part, 0);
+            let answer = look_at(book, word);
+            Settled {
+                ticket: ticket,
+                answer: answer,
+            }
         }
         Aim::Team(kind, team) => {
             let part = frames::head::part_after_kind(frame);
-            team_frame(book, ticket, known, part, kind, team)
+            team_settled(book, ticket, part, kind, team)
         }
-    }
-}
-
-// A ticket made anew: a view stepped, or a view or an edit read, which opens it or is refused.
-fn make_anew(book: &mut [u64], ticket: Ticket, frame: &[u8], kind: u16, team: u16) -> Settled
-    requires { ⌜ (length (now book) ≡ wordsInBook) × OutcomeKnown ticket (partAfterKind (now frame)) (Outcome.Anew kind team) ⌝ }
-    ensures { λ r. ⌜ (r, now (book .exit)) ≡ outcomeSettled (now (book .entry)) ticket (partAfterKind (now (frame .entry))) (Outcome.Anew kind team) ⌝ }
-{
-    if kind == Kind::STEP {
-        return step_view(book, ticket, team);
-    }
-    let part = frames::head::part_after_kind(frame);
-    if kind == Kind::VIEW {
-        return open_view(ticket, part);
-    }
-    open_edit(ticket, part, kind)
-}
-
-fn step_settled(ticket: Ticket, step: EditAnswer) -> Settled
-    requires { ⌜ AnswerFits ticket step ⌝ }
-    ensures { λ r. ⌜ r ≡ settled (afterAnswer ticket step) (Answer.Step (asStep step)) ⌝ }
-{
-    if step.finishes() {
-        return Settled {
-            ticket: Ticket::none(),
-            answer: Answer::Step(step.as_step()),
-        };
-    }
-    Settled {
-        ticket: ticket.after(step),
-        answer: Answer::Step(step.as_step()),
-    }
-}
-
-// The ticket and the words that an outcome leaves, and its answer.
-fn settled_by(book: &mut [u64], ticket: Ticket, frame: &[u8], outcome: Outcome) -> Settled
-    requires { ⌜ (length (now book) ≡ wordsInBook) × OutcomeKnown ticket (partAfterKind (now frame)) outcome ⌝ }
-    ensures { λ r. ⌜ (r, now (book .exit)) ≡ outcomeSettled (now (book .entry)) ticket (partAfterKind (now (frame .entry))) outcome ⌝ }
-{
-    match outcome {
-        Outcome::Refused(number) => Settled {
-            ticket: ticket,
-            answer: Answer::Refused(number),
-        },
-        Outcome::Looked(look) => Settled {
-            ticket: ticket,
-            answer: Answer::Look(look),
-        },
-        Outcome::Stepped(step) => step_settled(ticket, step),
-        Outcome::Anew(kind, team) => make_anew(book, ticket, frame, kind, team),
     }
 }
 
@@ -316,8 +324,7 @@ pub fn call(book: &mut [u64], mut tickets: Tickets, frame: &[u8], out: &mut [u8]
     let aim = aim_of(frame);
     let slot = slot_of(aim);
     let ticket = tickets.slots[slot];
-    let outcome = settle(book, ticket, false, frame, aim);
-    let done = settled_by(book, ticket, frame, outcome);
+    let done = settle(book, ticket, frame, aim);
     let next = done.ticket;
     let answer = done.answer;
     tickets.slots[slot] = next;
@@ -357,26 +364,83 @@ fn stop_of(next: Next) -> Stop
     }
 }
 
-// Writes an answer at a place of the output, and returns the place after it.
+fn write_went(out: &mut [u8], ticket: Ticket) -> usize
+    requires { ⌜ (longestAnswer ≤ length (now out)) × (nextOf ticket < mostTargets) ⌝ }
+    ensures { λ r. ⌜ ((r, now (out .exit)) ≡ written (now (out .entry)) (answerFrame (Answer.Step (wentAnswer (ticket .phase) (nextOf ticket + 1))))) × (r ≤ longestAnswer) ⌝ }
+{
+    let phase = ticket.phase;
+    encoder::write_went(out, phase, ticket.next() + 1)
+}
+
+fn write_looked(out: &mut [u8], book: &[u64], word: u16) -> usize
+    requires { ⌜ (longestAnswer ≤ length (now out)) × (length (now book) ≡ wordsInBook) ⌝ }
+    ensures { λ r. ⌜ ((r, now (out .exit)) ≡ written (now (out .entry)) (answerFrame (lookAnswer (now (book .entry)) word))) × (r ≤ longestAnswer) ⌝ }
+{
+    if (word as usize) < Limits::WORDS {
+        let look = tickets::look(book, word);
+        return encoder::write_look(out, look);
+    }
+    encoder::write_refused(out, Refusal::RANGE)
+}
+
+// Puts an answer at a place of the output, and returns the place after it:
 fn put_answer(out: &mut [u8], at: usize, answer: Answer) -> usize
     requires { ⌜ (at ≤ length (now out)) × (longestAnswer ≤ length (now out) - at) ⌝ }
-    ensures place { λ r. ⌜ (r ≡ at + written (roomIn (now (out .entry)) at) (answerFrame answer) .0) × (r ≤ length (now (out .entry))) ⌝ }
-    ensures bytes { λ r. ⌜ (now (out .exit) ≡ withRoom (now (out .entry)) at (written (roomIn (now (out .entry)) at) (answerFrame answer) .1)) × (length (now (out .exit)) ≡ length (now (out .entry))) ⌝ }
+    ensures { λ r. ⌜ PutAt (now (out .entry)) at (answerFrame answer) r (now (out .exit)) ⌝ }
 {
     let room = &mut out[at..];
     let count = encoder::write_answer(room, answer);
     at + count
 }
 
-// The same, of the answer to an edit's step: the way of most frames.
-fn put_step(out: &mut [u8], at: usize, step: EditAnswer) -> usize
-    requires { ⌜ (at ≤ length (now out)) × (longestAnswer ≤ length (now out) - at) ⌝ }
-    ensures place { λ r. ⌜ (r ≡ at + written (roomIn (now (out .entry)) at) (answerFrame (Answer.Step (asStep step))) .0) × (r ≤ length (now (out .entry))) ⌝ }
-    ensures bytes { λ r. ⌜ (now (out .exit) ≡ withRoom (now (out .entry)) at (written (roomIn (now (out .entry)) at) (answerFrame (Answer.Step (asStep step))) .1)) × (length (now (out .exit)) ≡ length (now (out .entry))) ⌝ }
+// that of an edit that goes on, which most frames get,
+fn put_went(out: &mut [u8], at: usize, ticket: Ticket) -> usize
+    requires { ⌜ (at ≤ length (now out)) × (longestAnswer ≤ length (now out) - at) × (nextOf ticket < mostTargets) ⌝ }
+    ensures { λ r. ⌜ PutAt (now (out .entry)) at (answerFrame (Answer.Step (wentAnswer (ticket .phase) (nextOf ticket + 1)))) r (now (out .exit)) ⌝ }
 {
     let room = &mut out[at..];
-    let bytes = encoder::write_edit_step(room, step);
-    at + bytes
+    let count = write_went(room, ticket);
+    at + count
+}
+
+// that of any other step of an edit,
+fn put_step(out: &mut [u8], at: usize, step: EditAnswer) -> usize
+    requires { ⌜ (at ≤ length (now out)) × (longestAnswer ≤ length (now out) - at) ⌝ }
+    ensures { λ r. ⌜ PutAt (now (out .entry)) at (answerFrame (Answer.Step (asStep step))) r (now (out .exit)) ⌝ }
+{
+    let room = &mut out[at..];
+    let count = encoder::write_edit_step(room, step);
+    at + count
+}
+
+// of an edit that opens a ticket,
+fn put_standing(out: &mut [u8], at: usize, n: u16) -> usize
+    requires { ⌜ (at ≤ length (now out)) × (longestAnswer ≤ length (now out) - at) ⌝ }
+    ensures { λ r. ⌜ PutAt (now (out .entry)) at (answerFrame (Answer.Standing n)) r (now (out .exit)) ⌝ }
+{
+    let room = &mut out[at..];
+    let count = encoder::write_standing(room, n);
+    at + count
+}
+
+// of a look,
+fn put_look(out: &mut [u8], at: usize, book: &[u64], word: u16) -> usize
+    requires { ⌜ (at ≤ length (now out)) × (longestAnswer ≤ length (now out) - at) × (length (now book) ≡ wordsInBook) ⌝ }
+    ensures { λ r. ⌜ PutAt (now (out .entry)) at (answerFrame (lookAnswer (now (book .entry)) word)) r (now (out .exit)) ⌝ }
+{
+    let room = &mut out[at..];
+    let count = write_looked(room, book, word);
+    at + count
+}
+
+// and of a refusal.
+fn put_refused(out: &mut [u8], at: usize, number: u16) -> usize
+    requires { ⌜ (at ≤ length (now out)) × (longestAnswer ≤ length (now out) - at) ⌝ }
+    ensures { λ r. ⌜ PutAt (now (out .entry)) at (answerFrame (Answer.Refused number)) r (now (out .exit)) ⌝ }
+{
+    let room = &mut out[at..];
+    let count = encoder::write_refused(room, number);
+    at + count
 }
 
 fn stopped(tickets: Tickets, consumed: usize, written: usize, stop: Stop) -> Streamed
@@ -390,19 +454,30 @@ fn stopped(tickets: Tickets, consumed: usize, written: usize, stop: Stop) -> Str
     }
 }
 
-// The table stays in one local, and one ticket goes through a frame's way. Its slot is stored where the outcome says how: a
-// ticket that goes on then keeps its targets in place. Where all tickets are well made at the start they stay so, and
-// none is tested again.
+// Whether a frame steps an edit's ticket that is known to be well made.
+fn steps_edit(ticket: Ticket, known: bool, kind: u16) -> bool
+    ensures { λ r. ⌜ r ≡ stepsEdit ticket known kind ⌝ }
+{
+    if kind == Kind::STEP {
+        if known {
+            return ticket.is_edit();
+        }
+    }
+    false
+}
+
+// The table stays in one local, and one ticket goes through a frame's way. An edit's step and an edit that opens a ticket,
+// as most frames are, have ways of their own, which store the slot where they know how: a ticket that goes on keeps its
+// targets in place. Where all tickets are well made at the start they stay so, and none is tested again.
 fn answer_frames(book: &mut [u64], mut tickets: Tickets, input: &[u8], out: &mut [u8]) -> Streamed
     requires { ⌜ length (now book) ≡ wordsInBook ⌝ }
     ensures { λ r. ⌜ ((r .consumed ≤ length (now (input .entry))) × (r .written ≤ length (now (out .entry)))) × ((r, now (book .exit), now (out .exit)) ≡ streamFrom (length (now (input .entry))) (now (book .entry)) tickets (now (input .entry)) (now (out .entry)) 0 0) ⌝ }
 {
     let known = all_well_made(tickets);
+    let gone = Ticket::none();
     let mut at: usize = 0;
     let mut filled: usize = 0;
-    let mut left = input.len();
-    while 0 < left {
-        left -= 1;
+    while at < input.len() {
         let next = next_frame(input, at);
         let Next::Frame(size) = next else {
             return stopped(tickets, at, filled, stop_of(next));
@@ -413,35 +488,58 @@ fn answer_frames(book: &mut [u64], mut tickets: Tickets, input: &[u8], out: &mut
         let end = at + size;
         let frame = &input[at..end];
         let aim = aim_of(frame);
-        let slot = slot_of(aim);
-        let ticket = tickets.slots[slot];
-        let outcome = settle(book, ticket, known, frame, aim);
         at = end;
-        match outcome {
-            Outcome::Refused(number) => {
-                filled = put_answer(out, filled, Answer::Refused(number));
+        match aim {
+            Aim::Refused(number) => {
+                filled = put_refused(out, filled, number);
             }
-            Outcome::Looked(look) => {
-                filled = put_answer(out, filled, Answer::Look(look));
+            Aim::Look => {
+                let part = frames::head::part_after_kind(frame);
+                let word = frames::numbers::read16(part, 0);
+                filled = put_look(out, filled, book, word);
             }
-            Outcome::Stepped(step) => {
-                if step.finishes() {
-                    let gone = Ticket::none();
-                    tickets.slots[slot] = gone;
-                    filled = put_step(out, filled, step);
+            Aim::Team(kind, team) => {
+                let slot = team as usize;
+                let ticket = tickets.slots[slot];
+                if steps_edit(ticket, known, kind) {
+                    let swapped = tickets::swap(book, ticket, team);
+                    if ticket.goes_on(swapped) {
+                        let after = ticket.went_on();
+                        tickets.slots[slot] = after;
+                        filled = put_went(out, filled, ticket);
+                    } else {
+                        let step = ticket.answer_to(swapped.found);
+                        if step.finishes() {
+                            tickets.slots[slot] = gone;
+                            filled = put_step(out, filled, step);
+                        } else {
+                            let after = ticket.after(step);
+                            tickets.slots[slot] = after;
+                            filled = put_step(out, filled, step);
+                        }
+                    }
+                } else if opens_edit(ticket, kind) {
+                    let part = frames::head::part_after_kind(frame);
+                    let read = decoder::read_edit(kind, part);
+                    match read {
+                        EditRead::Is(edit) => {
+                            let opened = edits::opened(edit);
+                            tickets.slots[slot] = opened;
+                            filled = put_standing(out, filled, opened.n);
+                        }
+                        EditRead::Refused(number) => {
+                            filled = put_refused(out, filled, number);
+                        }
+                    }
                 } else {
-                    let after = ticket.after(step);
-                    tickets.slots[slot] = after;
-                    filled = put_step(out, filled, step);
+                    let part = frames::head::part_after_kind(frame);
+                    let whole = tickets.slots[slot];
+                    let done = team_frame(book, whole, known, part, kind, team);
+                    let next = done.ticket;
+                    let answer = done.answer;
+                    tickets.slots[slot] = next;
+                    filled = put_answer(out, filled, answer);
                 }
-            }
-            Outcome::Anew(kind, team) => {
-                let whole = tickets.slots[slot];
-                let anew = make_anew(book, whole, frame, kind, team);
-                let next = anew.ticket;
-                let answer = anew.answer;
-                tickets.slots[slot] = next;
-                filled = put_answer(out, filled, answer);
             }
         }
     }

@@ -33,7 +33,7 @@ use Rattle.calls.specs.declared.Aim.the-variants as Aim
 use Rattle.calls.specs.declared.Settled.{Settled}
 use Rattle.calls.specs.declared.Reply.{Reply}
 use Rattle.calls.specs.Call.{refusalTests, refusalOf, Done, done, refusedOr, doneOf, Sent, number, bytes, sentOf, writtenBy, callOf}
-use Rattle.calls.specs.Way.{aimBy, aimOf, slotOf, settled, lookSettled, openSettled, viewSettled, stepSettled, anewSettled, teamSettled, settledBy, wayDone, wayOf}
+use Rattle.calls.specs.Way.{aimBy, aimOf, slotOf, settled, lookSettled, openSettled, viewSettled, stepSettled, newSettled, teamSettled, settledBy, wayDone, wayOf}
 use Rattle.calls.proofs.Way.{way-is-call}
 
 -- An answer that goes out as a frame: any but refusals 1 and 2.
@@ -99,16 +99,13 @@ view-framed ticket n words = go (viewInRange n words) (viewRepeats words)
     go true false = tt
     go false repeats = lit≤ tt
 
-anew-framed : (words : Words) (ticket : Ticket) (part : Bytes) (kind team : ℕ) → Framed (anewSettled words ticket part kind team .0 .answer)
-unfolding anewSettled
-anew-framed words ticket part kind team = go (eqb kind stepKind) (eqb kind viewKind)
+new-framed : (ticket : Ticket) (part : Bytes) (kind : ℕ) → Framed (newSettled ticket part kind .answer)
+unfolding newSettled
+new-framed ticket part kind = go (eqb kind viewKind)
   where
-    go : (step view : Bool)
-        → Framed ((cond {A = Settled × Words} step (stepSettled (stepOf words ticket team))
-        (cond view (viewSettled ticket (viewRead (number16 part 2) (viewWordsIn part)), words) (openSettled ticket (editRead (editOfKind kind part)), words))) .0 .answer)
-    go true view = tt
-    go false true = view-framed ticket (number16 part 2) (viewWordsIn part)
-    go false false = open-framed ticket (editOfKind kind part)
+    go : (view : Bool) → Framed ((cond view (viewSettled ticket (viewRead (number16 part 2) (viewWordsIn part))) (openSettled ticket (editRead (editOfKind kind part)))) .answer)
+    go true = view-framed ticket (number16 part 2) (viewWordsIn part)
+    go false = open-framed ticket (editOfKind kind part)
 
 team-framed : (words : Words) (ticket : Ticket) (part : Bytes) (kind team : ℕ) → Framed (teamSettled words ticket part kind team .0 .answer)
 unfolding teamSettled
@@ -117,12 +114,12 @@ team-framed words ticket part kind team = go (hasTicket (ticket .phase)) (wellMa
     go : (stands made step : Bool)
         → Framed ((cond {A = Settled × Words} stands
         (cond made (cond step (stepSettled (stepOf words ticket team)) (settled ticket (Answer.Refused 8), words)) (settled ticket (Answer.Refused 7), words))
-        (cond step (settled ticket (Answer.Refused 9), words) (anewSettled words ticket part kind team))) .0 .answer)
+        (cond step (settled ticket (Answer.Refused 9), words) (newSettled ticket part kind, words))) .0 .answer)
     go true true true = tt
     go true true false = lit≤ tt
     go true false step = lit≤ tt
     go false made true = lit≤ tt
-    go false made false = anew-framed words ticket part kind team
+    go false made false = new-framed ticket part kind
 
 settled-framed : (words : Words) (ticket : Ticket) (frame : Bytes) (aim : Aim) → FramedAim aim → Framed (settledBy words ticket frame aim .0 .answer)
 unfolding settledBy FramedAim

@@ -36,7 +36,7 @@ use Rattle.calls.specs.declared.Aim.{Aim}
 use Rattle.calls.specs.declared.Aim.the-variants as Aim
 use Rattle.calls.specs.declared.Settled.{Settled}
 use Rattle.calls.specs.Call.{bookLengthWrong, outputShort, teamUnknown, ownTicketBadlyMade, opensOverTicket, stepWithoutTicket, refusalTests, firstFrom, refusalOf, Done, done, requestDone, refusedOr, doneOf}
-use Rattle.calls.specs.Way.{aimBy, aimOf, slotOf, settled, lookSettled, openSettled, viewSettled, anewSettled, teamSettled, settledBy, wayDone, wayOf, WayIsCall}
+use Rattle.calls.specs.Way.{aimBy, aimOf, slotOf, settled, lookSettled, openSettled, viewSettled, newSettled, teamSettled, settledBy, wayDone, wayOf, WayIsCall}
 
 -- The tests from refusal 6 on, and what a request comes to by them.
 abbrev laterTests : Tickets → Request → List Bool
@@ -93,7 +93,7 @@ step-way words tickets frame team = go (ltb team teamCount) (hasTicket (ticketOf
 -- An edit: refusals 6, 7, 8, 10 and 11, or its ticket.
 edit-way : (words : Words) (tickets : Tickets) (frame : Bytes) (kind : ℕ) → kind ≤ moveKind
     → laterDone words tickets (Open (teamIn (partAfterKind frame)) (editOfKind kind (partAfterKind frame))) ≡ aimDone words tickets frame (teamAim kind (teamIn (partAfterKind frame)))
-unfolding requestDone settledBy teamSettled anewSettled allHold editRead openSettled
+unfolding requestDone settledBy teamSettled newSettled allHold editRead openSettled
 edit-way words tickets frame kind most =
     go (ltb team teamCount) (hasTicket (ticketOf tickets team .phase)) (wellMade (ticketOf tickets team)) (editInRange edit) (editRepeats edit) refl refl refl refl
   where
@@ -123,7 +123,7 @@ edit-way words tickets frame kind most =
 view-way : (words : Words) (tickets : Tickets) (frame : Bytes)
     → laterDone words tickets (View (teamIn (partAfterKind frame)) (number16 (partAfterKind frame) 2) (viewWordsIn (partAfterKind frame)))
     ≡ aimDone words tickets frame (teamAim viewKind (teamIn (partAfterKind frame)))
-unfolding requestDone settledBy teamSettled anewSettled allHold viewRead viewSettled
+unfolding requestDone settledBy teamSettled newSettled allHold viewRead viewSettled
 view-way words tickets frame =
     go (ltb team teamCount) (hasTicket (ticketOf tickets team .phase)) (wellMade (ticketOf tickets team)) (viewInRange n named) (viewRepeats named) refl refl refl refl
   where

@@ -10,7 +10,7 @@ use Rattle.words.specs.Words.{Words, wordsInBook}
 use Rattle.tickets.specs.declared.Tickets.{Tickets}
 use Rattle.frames.specs.Numbers.{Bytes, number16}
 use Rattle.frames.specs.Requests.{lengthField}
-use Rattle.frames.specs.Answers.{longestAnswer}
+use Rattle.frames.specs.Answers.{longestAnswer, written}
 use Rattle.calls.specs.declared.Stop.{Stop}
 use Rattle.calls.specs.declared.Stop.the-variants.{MoreInput, OutputFull, BadLength, NoBook}
 use Rattle.calls.specs.declared.Next.{Next}
@@ -40,6 +40,12 @@ roomIn out at = take (length out - at) (drop at out)
 
 abbrev pub withRoom : Bytes → ℕ → Bytes → Bytes
 withRoom out at room = take at out ++ (room ++ drop (length out - at) (drop at out))
+
+-- An answer put at a place of an output: the place after it, and the output with it.
+abbrev pub PutAt : Bytes → ℕ → Bytes → ℕ → Bytes → Type 0
+PutAt out at answer place output =
+    let sent = written (roomIn out at) answer in
+    ((place ≡ at + sent .0) × (place ≤ length out)) × ((output ≡ withRoom out at (sent .1)) × (length output ≡ length out))
 
 abbrev pub streamed : Tickets → ℕ → ℕ → Stop → Streamed
 streamed tickets consumed written stop = record { tickets = tickets; consumed = consumed; written = written; stop = stop }

@@ -1,15 +1,16 @@
 -- The way of one frame, as the code goes it: where it is aimed, the slot it uses, what is made of the ticket there. It is shown equal to the call's definition.
 use Prim.Native.Nat.{ℕ, zero, suc, _+_, _-_, _≤_, _<_}
 use mathlib.Core.Path.{_≡_}
-use mathlib.Core.Bool.{Bool, true, false, cond}
+use mathlib.Core.Bool.{Bool, true, false, cond, not}
 use lib.ListN.{length}
 use lib.Dec.{eqb, ltb}
 use Rattle.words.specs.Words.{Words, wordsInBook, teamCount}
 use Rattle.tickets.specs.declared.Ticket.{Ticket}
 use Rattle.tickets.specs.declared.Tickets.{Tickets}
 use Rattle.tickets.specs.declared.Stepped.{Stepped}
-use Rattle.tickets.specs.Tickets.{ticketOf, withTicket, hasTicket, isView, wellMade}
-use Rattle.tickets.specs.Steps.{asStep, afterAnswer, AnswerFits, stepOf, lookOf}
+use Rattle.tickets.specs.Tickets.{ticketOf, withTicket, hasTicket, wellMade}
+use Rattle.tickets.specs.Steps.{stepOf, lookOf}
+use Rattle.tickets.specs.Going.{isEdit}
 use Rattle.edits.specs.declared.View.{View}
 use Rattle.edits.specs.Opened.{targetCount, openedTicket}
 use Rattle.edits.specs.Views.{wordsNamed, openedView}
@@ -28,8 +29,6 @@ use Rattle.frames.specs.Answers.{longestAnswer}
 use Rattle.frames.specs.Fields.{headerOf, editRead, viewRead, ViewFields, FieldsOf, Whole}
 use Rattle.calls.specs.declared.Aim.{Aim}
 use Rattle.calls.specs.declared.Aim.the-variants as Aim
-use Rattle.calls.specs.declared.Outcome.{Outcome}
-use Rattle.calls.specs.declared.Outcome.the-variants as Outcome
 use Rattle.calls.specs.declared.Settled.{Settled}
 use Rattle.calls.specs.Call.{Done, done, doneOf}
 
@@ -77,10 +76,6 @@ settled ticket answer = record { ticket = ticket; answer = answer }
 abbrev pub lookAnswer : Words → ℕ → Answer
 lookAnswer words word = cond (ltb word wordsInBook) (Answer.Look (lookOf words word)) (Answer.Refused 10)
 
--- As an outcome.
-abbrev pub lookOutcome : Words → ℕ → Outcome
-lookOutcome words word = cond (ltb word wordsInBook) (Outcome.Looked (lookOf words word)) (Outcome.Refused 10)
-
 unfoldable pub lookSettled : Words → Ticket → ℕ → Settled
 lookSettled words ticket word = settled ticket (lookAnswer words word)
 
@@ -100,37 +95,17 @@ viewSettled ticket read = readingSettled ticket (read .view) (read .reading)
 abbrev pub stepSettled : Stepped × Words → Settled × Words
 stepSettled result = (settled (result .0 .ticket) (Answer.Step (result .0 .answer)), result .1)
 
--- A frame whose slot gets a ticket made anew: a view's step, a view opened, or an edit.
-unfoldable pub anewSettled : Words → Ticket → Bytes → ℕ → ℕ → Settled × Words
-anewSettled words ticket part kind team =
-    cond (eqb kind stepKind) (stepSettled (stepOf words ticket team))
-    (cond (eqb kind viewKind) (viewSettled ticket (viewRead (number16 part 2) (viewWordsIn part)), words)
-    (openSettled ticket (editRead (editOfKind kind part)), words))
+-- One of the two, by the kind.
+unfoldable pub newSettled : Ticket → Bytes → ℕ → Settled
+newSettled ticket part kind =
+    cond (eqb kind viewKind) (viewSettled ticket (viewRead (number16 part 2) (viewWordsIn part)))
+    (openSettled ticket (editRead (editOfKind kind part)))
 
--- What an outcome makes of the ticket in its slot and of the words, and its answer, by the part of the frame after its kind.
-abbrev pub outcomeSettled : Words → Ticket → Bytes → Outcome → Settled × Words
-outcomeSettled words ticket part (Outcome.Refused number) = (settled ticket (Answer.Refused number), words)
-outcomeSettled words ticket part (Outcome.Looked answer) = (settled ticket (Answer.Look answer), words)
-outcomeSettled words ticket part (Outcome.Stepped answer) = (settled (afterAnswer ticket answer) (Answer.Step (asStep answer)), words)
-outcomeSettled words ticket part (Outcome.Anew kind team) = anewSettled words ticket part kind team
-
--- What is known of a view to be stepped, and of an edit to be opened, which is of one of the four kinds and has its fields.
-pub record ViewStands (ticket : Ticket) (team : ℕ) : Type 0 where
-  pub made : wellMade ticket ≡ true
-  pub view : isView (ticket .phase) ≡ true
-  pub team-known : team < teamCount
-
+-- What is known of an edit to be opened, which is of one of the four kinds and has its fields.
 pub record EditFields (part : Bytes) (kind : ℕ) : Type 0 where
   pub first : addKind ≤ kind
   pub last : kind < stepKind
   pub long : length part ≡ lengthOfKind kind - 2
-
--- What is known of an outcome: a step's answer fits the counts of its ticket; a ticket can be made anew.
-abbrev pub OutcomeKnown : Ticket → Bytes → Outcome → Type 0
-OutcomeKnown ticket part (Outcome.Refused number) = Unit {0}
-OutcomeKnown ticket part (Outcome.Looked answer) = Unit {0}
-OutcomeKnown ticket part (Outcome.Stepped answer) = AnswerFits ticket answer
-OutcomeKnown ticket part (Outcome.Anew kind team) = cond (eqb kind stepKind) (ViewStands ticket team) (cond (eqb kind viewKind) (ViewFields part) (EditFields part kind))
 
 -- A slot passes: a ticket that it has is well made (it is not `badlyMade`). A table passes, if all its slots do.
 abbrev pub SlotWellMade : Ticket → Type 0
@@ -154,7 +129,15 @@ teamSettled words ticket part kind team =
     (cond (wellMade ticket)
     (cond (eqb kind stepKind) (stepSettled (stepOf words ticket team)) (settled ticket (Answer.Refused 8), words))
     (settled ticket (Answer.Refused 7), words))
-    (cond (eqb kind stepKind) (settled ticket (Answer.Refused 9), words) (anewSettled words ticket part kind team))
+    (cond (eqb kind stepKind) (settled ticket (Answer.Refused 9), words) (newSettled ticket part kind, words))
+
+-- Whether a frame steps an edit's ticket that is known to be well made,
+abbrev pub stepsEdit : Ticket → Bool → ℕ → Bool
+stepsEdit ticket known kind = cond (eqb kind stepKind) (cond known (isEdit (ticket .phase)) false) false
+
+-- and whether it is an edit of a team without a ticket. The stream has a way of its own for both.
+abbrev pub opensEdit : Ticket → ℕ → Bool
+opensEdit ticket kind = cond (ltb kind stepKind) (not (hasTicket (ticket .phase))) false
 
 -- What an aimed frame makes of the ticket in its slot and of the words, and its answer.
 unfoldable pub settledBy : Words → Ticket → Bytes → Aim → Settled × Words

@@ -1,8 +1,6 @@
 // What a call and a stream give, as types. What they are is said in specs/, with the theorems about every list of
 // calls; the code stands in the crate book.
 use frames::Answer;
-use tickets::EditAnswer;
-use tickets::LookAnswer;
 use tickets::Ticket;
 use tickets::Tickets;
 
@@ -23,16 +21,6 @@ pub enum Aim {
 pub struct Settled {
     pub ticket: Ticket,
     pub answer: Answer,
-}
-
-// What a frame comes to: a refusal or a look, which leave the ticket in its slot; the answer to an edit's step, which says
-// what becomes of the ticket; or a ticket made anew, by this kind and team: an edit or a view to open, or a view to step.
-// It is small, so that the ticket is copied nowhere on the way.
-pub enum Outcome {
-    Refused(u16),
-    Looked(LookAnswer),
-    Stepped(EditAnswer),
-    Anew(u16, u16),
 }
 
 // Why a stream stopped: the rest is no whole frame yet; there is no room for an answer; a length field is too

@@ -1,12 +1,13 @@
 // An answer's frame, written at the front of the output.
 ghost use mathlib.Core.Path.{_≡_};
 ghost use mathlib.Core.List.{[], _++_};
-ghost use Prim.Native.Nat.{_+_, _≤_, min};
+ghost use Prim.Native.Nat.{ℕ, _+_, _≤_, min};
 ghost use lib.ListN.{length};
 ghost use lib.Seq.{sets};
 ghost use Rattle.words.specs.Words.{mostTargets};
 ghost use Rattle.tickets.specs.declared.StepAnswer.the-variants.{Seen};
 ghost use Rattle.tickets.specs.Steps.{asStep};
+ghost use Rattle.tickets.specs.Going.{wentAnswer};
 ghost use Rattle.frames.specs.declared.Answer.the-variants as Answer;
 ghost use Rattle.frames.specs.Numbers.{bytes16, bytes32, bytes64};
 ghost use Rattle.frames.specs.Requests.{headBytes};
@@ -18,6 +19,7 @@ use frames::numbers::put32;
 use frames::numbers::put64;
 use tickets::EditAnswer;
 use tickets::LookAnswer;
+use tickets::Phase;
 use tickets::StepAnswer;
 use tickets::Values;
 use words::Limits;
@@ -155,7 +157,30 @@ fn write_values(out: &mut [u8], seen: Values) -> usize
     count
 }
 
-// The answer to an edit's step: what most frames get.
+// The kind of the answer to an edit's step that goes on.
+fn went_kind(phase: Phase) -> u16
+    ensures { λ r. ⌜ ((many : ℕ) → frameOf r (bytes16 many) ≡ answerFrame (Answer.Step (wentAnswer phase many))) ⌝ }
+{
+    match phase {
+        Phase::NoTicket => AnswerKind::RETURNED,
+        Phase::Claiming => AnswerKind::CLAIMED,
+        Phase::Putting => AnswerKind::PUT,
+        Phase::GivingBack => AnswerKind::RETURNED,
+        Phase::Viewing => AnswerKind::RETURNED,
+        Phase::Viewed => AnswerKind::RETURNED,
+    }
+}
+
+// The answer to an edit's step that goes on: what most frames get.
+pub fn write_went(out: &mut [u8], phase: Phase, many: u16) -> usize
+    requires { ⌜ longestAnswer ≤ length (now out) ⌝ }
+    ensures { λ r. ⌜ ((r, now (out .exit)) ≡ written (now (out .entry)) (answerFrame (Answer.Step (wentAnswer phase many)))) × (r ≤ longestAnswer) ⌝ }
+{
+    let kind = went_kind(phase);
+    write_short(out, kind, many)
+}
+
+// The answer to any step of an edit.
 pub fn write_edit_step(out: &mut [u8], answer: EditAnswer) -> usize
     requires { ⌜ longestAnswer ≤ length (now out) ⌝ }
     ensures { λ r. ⌜ ((r, now (out .exit)) ≡ written (now (out .entry)) (answerFrame (Answer.Step (asStep answer)))) × (r ≤ longestAnswer) ⌝ }
@@ -188,14 +213,28 @@ fn write_step(out: &mut [u8], answer: StepAnswer) -> usize
     }
 }
 
-fn write_look(out: &mut [u8], answer: LookAnswer) -> usize
+pub fn write_look(out: &mut [u8], answer: LookAnswer) -> usize
     requires { ⌜ longestAnswer ≤ length (now out) ⌝ }
-    ensures { λ r. ⌜ (r, now (out .exit)) ≡ written (now (out .entry)) (answerFrame (Answer.Look answer)) ⌝ }
+    ensures { λ r. ⌜ ((r, now (out .exit)) ≡ written (now (out .entry)) (answerFrame (Answer.Look answer))) × (r ≤ longestAnswer) ⌝ }
 {
     match answer {
         LookAnswer::Held => write_bare(out, AnswerKind::HELD),
         LookAnswer::Value(value) => write_longest(out, AnswerKind::VALUE, value),
     }
+}
+
+pub fn write_standing(out: &mut [u8], n: u16) -> usize
+    requires { ⌜ longestAnswer ≤ length (now out) ⌝ }
+    ensures { λ r. ⌜ ((r, now (out .exit)) ≡ written (now (out .entry)) (answerFrame (Answer.Standing n))) × (r ≤ longestAnswer) ⌝ }
+{
+    write_short(out, AnswerKind::STANDING, n)
+}
+
+pub fn write_refused(out: &mut [u8], number: u16) -> usize
+    requires { ⌜ longestAnswer ≤ length (now out) ⌝ }
+    ensures { λ r. ⌜ ((r, now (out .exit)) ≡ written (now (out .entry)) (answerFrame (Answer.Refused number))) × (r ≤ longestAnswer) ⌝ }
+{
+    write_short(out, AnswerKind::REFUSED, number)
 }
 
 // The bytes written; later bytes of the output keep their contents.
@@ -204,9 +243,9 @@ pub fn write_answer(out: &mut [u8], answer: Answer) -> usize
     ensures { λ r. ⌜ ((r, now (out .exit)) ≡ written (now (out .entry)) (answerFrame answer)) × (r ≤ longestAnswer) ⌝ }
 {
     match answer {
-        Answer::Standing(n) => write_short(out, AnswerKind::STANDING, n),
+        Answer::Standing(n) => write_standing(out, n),
         Answer::Step(step) => write_step(out, step),
         Answer::Look(look) => write_look(out, look),
-        Answer::Refused(number) => write_short(out, AnswerKind::REFUSED, number),
+        Answer::Refused(number) => write_refused(out, number),
     }
 }

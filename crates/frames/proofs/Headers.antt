@@ -16,7 +16,7 @@ use Rattle.frames.specs.declared.Header.the-variants as Header
 use Rattle.frames.specs.Request.{Open, Step, Look, View}
 use Rattle.frames.specs.Numbers.{Bytes, number16}
 use Rattle.frames.specs.Requests.{lengthField, kindField, headBytes, partAfterKind, addKind, correctKind, strikeKind, moveKind, stepKind, lookKind, viewKind, lengthOfKind, lengthOfView, lengthFits, teamIn, viewWordsIn, editOfKind, requestOfKind}
-use Rattle.frames.specs.Fields.{longestFrame, frameTorn, kindUnknown, lengthWrong, headerOf, ViewFields, FieldsOf, Whole}
+use Rattle.frames.specs.Fields.{longestFrame, frameTorn, kindUnknown, lengthWrong, headerOf, StepHead, ViewFields, FieldsOf, Whole}
 use Rattle.frames.proofs.Ranges.{first-of, next-of, none-of, within-in, within-below, within-above}
 
 -- 3: too short, too long, or another count than the length field says.
@@ -122,6 +122,20 @@ whole frame length-field kind first last head e fits = record {
   head = head;
   fields = fields-fit kind length-field (partAfterKind frame) (part-length frame length-field head e) fits;
 }
+
+-- A step's frame is whole, and its kind is a step's.
+step-length : lengthFits stepKind 4 ≡ true
+unfolding lengthFits
+step-length = refl
+
+pub step-header : (frame : Bytes) → StepHead frame → (Header.Kind stepKind ≡ headerOf frame) × Whole frame stepKind
+step-header frame step =
+    let counted : lengthField frame + 2 ≡ length frame = omega (arith, step .bytes, step .length-field) in
+    let least : headBytes ≤ length frame = omega (arith, step .bytes) in
+    let fits : lengthFits (kindField frame) (lengthField frame) ≡ true = (λ i. lengthFits (step .kind-field i) (step .length-field i)) ∙ step-length in (
+      ap Header.Kind (sym (step .kind-field)) ∙ header-kind frame (not-torn frame least (omega (arith, step .bytes)) counted) (kind-known frame (omega (arith, step .kind-field)) (omega (arith, step .kind-field))) (length-due frame fits),
+      whole frame (lengthField frame) stepKind (omega arith) (omega arith) least counted (ap (λ (kind : ℕ). lengthFits kind (lengthField frame)) (sym (step .kind-field)) ∙ fits),
+    )
 
 -- The fields of a whole frame: those of a view, and those of any other kind.
 pub fields-of-kind : {frame : Bytes} {kind : ℕ} → Whole frame kind → (kind ≡ viewKind → ⊥) → length (partAfterKind frame) ≡ lengthOfKind kind - 2

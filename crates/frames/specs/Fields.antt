@@ -33,7 +33,7 @@ use Rattle.frames.specs.declared.Reading.{Reading}
 use Rattle.frames.specs.declared.Reading.the-variants as Reading
 use Rattle.frames.specs.declared.ViewRead.{ViewRead}
 use Rattle.frames.specs.Numbers.{Bytes}
-use Rattle.frames.specs.Requests.{lengthField, kindField, headBytes, partAfterKind, addKind, viewKind, lengthOfKind, lengthFits}
+use Rattle.frames.specs.Requests.{lengthField, kindField, headBytes, partAfterKind, addKind, stepKind, viewKind, lengthOfKind, lengthFits}
 
 -- A frame has at most 64 bytes.
 abbrev pub longestFrame : ℕ
@@ -50,6 +50,12 @@ kindUnknown frame = not (within addKind viewKind (kindField frame))
 -- 5. The length isn't that of the kind.
 abbrev pub lengthWrong : Bytes → Bool
 lengthWrong frame = not (lengthFits (kindField frame) (lengthField frame))
+
+-- A frame of six bytes whose length and kind are a step's.
+pub record StepHead (frame : Bytes) : Type 0 where
+  pub bytes : length frame ≡ 6
+  pub length-field : lengthField frame ≡ 4
+  pub kind-field : kindField frame ≡ stepKind
 
 -- The first of these three that applies, or else the kind.
 unfoldable pub headerOf : Bytes → Header

@@ -1,14 +1,16 @@
 // A frame's length and kind, and the part after the kind.
 ghost use mathlib.Core.Path.{_≡_};
+ghost use mathlib.Core.Bool.{true};
 ghost use Prim.Native.Nat.{_≤_};
 ghost use lib.ListN.{length};
 ghost use Rattle.frames.specs.Requests.{headBytes, partAfterKind, lengthOfKind, lengthFits};
-ghost use Rattle.frames.specs.Fields.{headerOf, WholeIfKnown};
+ghost use Rattle.frames.specs.Fields.{headerOf, WholeIfKnown, StepHead};
 use crate::Frame;
 use crate::Header;
 use crate::Kind;
 use crate::Refusal;
 use crate::numbers::read16;
+use crate::numbers::read32;
 use words::Limits;
 
 // The part of the frame after its kind.
@@ -54,10 +56,23 @@ fn length_fits(kind: u16, length: u16) -> bool
     count % Frame::FIELD == 0
 }
 
+// Whether a frame is a step's, told by its length and its kind at once: most frames are.
+fn is_step(frame: &[u8]) -> bool
+    ensures { λ r. ⌜ (r ≡ true → StepHead (now (frame .entry))) ⌝ }
+{
+    if frame.len() != Frame::STEP {
+        return false;
+    }
+    read32(frame, 0) == Frame::STEP_HEAD
+}
+
 // The kind, unless refusal 3, 4 or 5 comes first.
 pub fn read_header(frame: &[u8]) -> Header
     ensures { λ r. ⌜ (r ≡ headerOf (now (frame .entry))) × WholeIfKnown (now (frame .entry)) r ⌝ }
 {
+    if is_step(frame) {
+        return Header::Kind(Kind::STEP);
+    }
     let count = frame.len();
     if count < Frame::HEAD {
         return Header::Refused(Refusal::TORN);

@@ -87,6 +87,11 @@ impl Frame {
     // The length and the kind.
     pub const HEAD: usize = 4;
 
+    // A step's, with the team as its only field; and its first four bytes, as one number.
+    pub const STEP: usize = Frame::HEAD + Frame::FIELD;
+
+    pub const STEP_HEAD: u32 = (Frame::STEP - Frame::FIELD) as u32 + 65536 * (Kind::STEP as u32);
+
     // What a view's length counts beside its words: kind, team and n.
     pub const BEFORE_WORDS: usize = 6;
 

@@ -2,7 +2,7 @@
 ghost use mathlib.Core.Path.{_≡_};
 ghost use mathlib.Core.Bool.{Bool, true};
 ghost use Prim.Native.Nat.{_+_, _*_, _≤_, _<_, _^_};
-ghost use Rattle.words.specs.Words.{passageCount};
+ghost use Rattle.words.specs.Words.{passageCount, newestWord, countWord, firstLegWord};
 ghost use Rattle.legs.specs.Legs.{steepestClino, clinoInRange, clinoOffset, placeOf, measureOf, measureInRange};
 ghost use Rattle.legs.specs.Reading.{clinoAt, isPlace, isMeasure, readingOf};
 ghost use Rattle.legs.specs.Positions.{positionOf};
@@ -188,13 +188,20 @@ const RANKS: [u16; Limits::PASSAGES as usize] = [
     30,
 ];
 
+// The position of a passage's newest; that of its count is the next one.
+pub fn newest_position(passage: u16) -> u16
+    requires { ⌜ passage < passageCount ⌝ }
+    ensures { λ r. ⌜ (r ≡ positionOf (newestWord passage)) × (r + 1 ≡ positionOf (countWord passage)) × (r + 1 < firstLegWord) ⌝ }
+{
+    Limits::PASSAGE_WORDS * RANKS[passage as usize]
+}
+
 // A word's position in the claim order.
 pub fn position(word: u16) -> u16
     ensures { λ r. ⌜ r ≡ positionOf word ⌝ }
 {
     if word < Limits::PASSAGE_WORDS * Limits::PASSAGES {
-        let passage = (word / Limits::PASSAGE_WORDS) as usize;
-        Limits::PASSAGE_WORDS * RANKS[passage] + word % Limits::PASSAGE_WORDS
+        newest_position(word / Limits::PASSAGE_WORDS) + word % Limits::PASSAGE_WORDS
     } else {
         word
     }

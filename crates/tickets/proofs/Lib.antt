@@ -15,5 +15,6 @@ pub mod Seeing
 pub mod WellMade
 pub mod After
 pub mod Tries
+pub mod Going
 mod Examples
 pub mod Putting

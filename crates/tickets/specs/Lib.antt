@@ -2,3 +2,4 @@ pub mod Tickets
 pub mod Steps
 pub mod Targets
 pub mod Invariant
+pub mod Going

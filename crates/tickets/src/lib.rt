@@ -1,13 +1,15 @@
 // Tickets, one step of a ticket, and one look.
 ghost use mathlib.Core.Path.{_≡_};
-ghost use mathlib.Core.Bool.{Bool, true, false};
+ghost use mathlib.Core.Bool.{Bool, true, false, cond};
 ghost use Prim.Native.Nat.{ℕ, _+_, _≤_, _<_};
 ghost use lib.ListN.{length};
+ghost use lib.Dec.{eqb};
 ghost use Rattle.words.specs.Tests.{occurs, allOccur};
 ghost use Rattle.words.specs.Words.{Words, wordsInBook, teamCount, mostTargets};
-ghost use Rattle.tickets.specs.declared.Phase.the-variants.{Claiming, Viewing, Viewed};
+ghost use Rattle.tickets.specs.declared.Phase.the-variants.{Claiming, Putting, Viewing, Viewed};
 ghost use Rattle.tickets.specs.Tickets.{noTicket, freshTickets, targetAt, targetsIn, wordsIn, namedIn, hasTicket, isView, targetWellMade, countsWellMade, viewWellMade, wellMade};
 ghost use Rattle.tickets.specs.Steps.{tries, oneMoreTry, advanced, swapTried, stepped, claimed, put, givenBack, settledIn, settled, noting, viewClaimed, valueNoted, valueNamed, valuesSeen, viewGivenBack, asStep, finishes, afterAnswer, AnswerFits, stepOf, lookOf};
+ghost use Rattle.tickets.specs.Going.{isClaiming, isPutting, isEdit, nextOf, endOf, goesOn, wentOn};
 use words::Limits;
 
 // A word, the value that the edit quotes for it (in the source document: expected) and its new value (desired).
@@ -53,6 +55,12 @@ pub struct SwapTried {
     pub word: u16,
     pub expected: u64,
     pub desired: u64,
+}
+
+// What a swap expected, and what it found.
+pub struct Swapped {
+    pub expected: u64,
+    pub found: u64,
 }
 
 pub enum StepAnswer {
@@ -109,6 +117,19 @@ fn swap_of(word: u16, expected: u64, desired: u64) -> SwapTried
         expected: expected,
         desired: desired,
     }
+}
+
+// One of two values, and one of two counts: the processor can't foresee a ticket's phase, and chooses without a branch.
+fn chosen(test: bool, yes: u64, no: u64) -> u64
+    ensures { λ r. ⌜ r ≡ cond test yes no ⌝ }
+{
+    if test { yes } else { no }
+}
+
+fn chosen_count(test: bool, yes: u16, no: u16) -> u16
+    ensures { λ r. ⌜ r ≡ cond test yes no ⌝ }
+{
+    if test { yes } else { no }
 }
 
 impl Target {
@@ -172,6 +193,51 @@ impl Ticket {
             Phase::GivingBack => false,
             Phase::Viewing => true,
             Phase::Viewed => true,
+        }
+    }
+
+    // Whether this is an edit's ticket;
+    pub fn is_edit(self) -> bool
+        ensures { λ r. ⌜ r ≡ isEdit (self .phase) ⌝ }
+    {
+        let phase = self.phase;
+        match phase {
+            Phase::NoTicket => false,
+            Phase::Claiming => true,
+            Phase::Putting => true,
+            Phase::GivingBack => true,
+            Phase::Viewing => false,
+            Phase::Viewed => false,
+        }
+    }
+
+    // whether it claims
+    fn is_claiming(self) -> bool
+        ensures { λ r. ⌜ r ≡ isClaiming (self .phase) ⌝ }
+    {
+        let phase = self.phase;
+        match phase {
+            Phase::NoTicket => false,
+            Phase::Claiming => true,
+            Phase::Putting => false,
+            Phase::GivingBack => false,
+            Phase::Viewing => false,
+            Phase::Viewed => false,
+        }
+    }
+
+    // or puts.
+    fn is_putting(self) -> bool
+        ensures { λ r. ⌜ r ≡ isPutting (self .phase) ⌝ }
+    {
+        let phase = self.phase;
+        match phase {
+            Phase::NoTicket => false,
+            Phase::Claiming => false,
+            Phase::Putting => true,
+            Phase::GivingBack => false,
+            Phase::Viewing => false,
+            Phase::Viewed => false,
         }
     }
 
@@ -319,30 +385,25 @@ impl Ticket {
         }
     }
 
+    // The number of an edit's next target: to claim, to put or to give back.
+    pub fn next(self) -> u16
+        ensures { λ r. ⌜ r ≡ nextOf self ⌝ }
+    {
+        chosen_count(self.is_claiming(), self.claimed, self.done)
+    }
+
     // The conditional swap that an edit's next step tries, whatever the words are.
     pub fn swap_tried(self, team: u16) -> SwapTried
         requires { ⌜ (wellMade self ≡ true) × (isView (self .phase) ≡ false) × (team < teamCount) ⌝ }
         ensures { λ r. ⌜ ((words : Words) → r ≡ swapTried words self team) × (r .word < wordsInBook) ⌝ }
     {
         let mark = words::mark(team);
-        let phase = self.phase;
-        match phase {
-            Phase::Claiming => {
-                let next = self.target(self.claimed);
-                swap_of(next.word, next.quoted, mark)
-            }
-            Phase::Putting => {
-                let next = self.target(self.done);
-                swap_of(next.word, mark, next.new)
-            }
-            Phase::GivingBack => {
-                let next = self.target(self.done);
-                swap_of(next.word, mark, next.quoted)
-            }
-            Phase::NoTicket => swap_of(0, 0, 0),
-            Phase::Viewing => swap_of(0, 0, 0),
-            Phase::Viewed => swap_of(0, 0, 0),
-        }
+        let next = self.target(self.next());
+        let value = chosen(self.is_putting(), next.new, next.quoted);
+        let claiming = self.is_claiming();
+        let expected = chosen(claiming, value, mark);
+        let desired = chosen(claiming, mark, value);
+        swap_of(next.word, expected, desired)
     }
 
     // One more word claimed: the ticket advanced, and putting once it has them all.
@@ -440,6 +501,66 @@ impl Ticket {
             Phase::Viewing => self.give_back_answer(),
             Phase::Viewed => self.give_back_answer(),
         }
+    }
+
+    // The same, which says what becomes of the ticket.
+    pub fn answer_to(self, found: u64) -> EditAnswer
+        requires { ⌜ (wellMade self ≡ true) × (isView (self .phase) ≡ false) ⌝ }
+        ensures { λ r. ⌜ (stepped (afterAnswer self r) (asStep r) ≡ settled self found) × AnswerFits self r ⌝ }
+    {
+        self.answer(found)
+    }
+
+    // Where an edit ends: with all put, or all given back that were claimed.
+    fn end(self) -> u16
+        requires { ⌜ self .n ≤ mostTargets ⌝ }
+        ensures { λ r. ⌜ r ≡ endOf self ⌝ }
+    {
+        let end = chosen_count(self.is_putting(), self.n, self.claimed);
+        chosen_count(self.is_claiming(), self.n + 1, end)
+    }
+
+    // Whether an edit goes on as most do: its swap found what it expected, and it isn't the last.
+    pub fn goes_on(self, swapped: Swapped) -> bool
+        requires { ⌜ (nextOf self < mostTargets) × (self .n ≤ mostTargets) ⌝ }
+        ensures { λ r. ⌜ r ≡ goesOn self (swapped .expected) (swapped .found) ⌝ }
+    {
+        if swapped.found == swapped.expected {
+            return self.next() + 1 != self.end();
+        }
+        false
+    }
+
+    // Whether so many are all that it claims.
+    fn claims_all(self, many: u16) -> bool
+        ensures { λ r. ⌜ r ≡ cond (isClaiming (self .phase)) (eqb many (self .n)) false ⌝ }
+    {
+        if self.is_claiming() {
+            return many == self.n;
+        }
+        false
+    }
+
+    // The phase that an edit goes on in.
+    fn phase_after(self, all: bool) -> Phase
+        ensures { λ r. ⌜ r ≡ cond all Putting (self .phase) ⌝ }
+    {
+        let phase = self.phase;
+        if all { Phase::Putting } else { phase }
+    }
+
+    // The ticket of an edit that goes on: one more claimed, put or given back, by no branch on its phase.
+    pub fn went_on(self) -> Ticket
+        requires { ⌜ nextOf self < mostTargets ⌝ }
+        ensures { λ r. ⌜ r ≡ wentOn self ⌝ }
+    {
+        let more = self.next() + 1;
+        let claiming = self.is_claiming();
+        let all = self.claims_all(more);
+        let claimed = chosen_count(claiming, more, self.claimed);
+        let kept = chosen_count(claiming, self.done, more);
+        let done = chosen_count(all, 0, kept);
+        self.advanced(self.phase_after(all), claimed, done)
     }
 
     // The ticket advanced by a step that goes on, by its answer.
@@ -646,16 +767,28 @@ impl Tickets {
     }
 }
 
+// The conditional swap of a step of a team's edit: what it finds settles the step.
+pub fn swap(book: &mut [u64], ticket: Ticket, team: u16) -> Swapped
+    requires { ⌜ (length (now book) ≡ wordsInBook) × (wellMade ticket ≡ true) × (isView (ticket .phase) ≡ false) × (team < teamCount) ⌝ }
+    ensures { λ r. ⌜ (r .expected ≡ swapTried (now (book .entry)) ticket team .expected) × ((settled ticket (r .found), now (book .exit)) ≡ stepOf (now (book .entry)) ticket team) ⌝ }
+{
+    let tried = ticket.swap_tried(team);
+    let at = tried.word as usize;
+    let found = words::conditional_swap(book, at, tried.expected, tried.desired);
+    Swapped {
+        expected: tried.expected,
+        found: found,
+    }
+}
+
 // One step of a team's edit: one conditional swap, and its answer, which says what becomes of the ticket.
 pub fn step(book: &mut [u64], ticket: Ticket, team: u16) -> EditAnswer
     requires { ⌜ (length (now book) ≡ wordsInBook) × (wellMade ticket ≡ true) × (isView (ticket .phase) ≡ false) × (team < teamCount) ⌝ }
     ensures step { λ r. ⌜ (stepped (afterAnswer ticket r) (asStep r), now (book .exit)) ≡ stepOf (now (book .entry)) ticket team ⌝ }
     ensures fits { λ r. ⌜ AnswerFits ticket r ⌝ }
 {
-    let tried = ticket.swap_tried(team);
-    let at = tried.word as usize;
-    let found = words::conditional_swap(book, at, tried.expected, tried.desired);
-    ticket.answer(found)
+    let swapped = swap(book, ticket, team);
+    ticket.answer_to(swapped.found)
 }
 
 // One step of a view that claims: one swap, which takes any value.

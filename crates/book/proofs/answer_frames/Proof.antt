@@ -1,28 +1,39 @@
 -- `book::answer_frames` meets its contract. The loop's invariant: what the definition makes of what is left is what it makes of the whole.
 use borrow.Author.Needs.{needs}
 use native.Mathlib.Omega.{arith}
-use mathlib.Core.Path.{refl, sym, ap, subst, _∙_}
+use Prim.Native.Nat.{ℕ, _+_, _-_, _<_}
+use mathlib.Core.Path.{_≡_, refl, sym, ap, subst, _∙_}
+use mathlib.Core.Bool.{true}
 use denote.Ref.{now}
 use lib.ListN.{length}
+use Rattle.tickets.specs.Steps.{stepped, asStep}
+use Rattle.tickets.specs.Going.{nextOf, goesOn, wentAnswer}
+use Rattle.tickets.proofs.Made.{made}
+use Rattle.tickets.proofs.Going.{next-in-room, going-is-settled}
+use Rattle.frames.specs.Numbers.{Bytes, number16}
 use Rattle.calls.specs.declared.Stop.the-variants.{MoreInput}
-use Rattle.calls.specs.Way.{OutcomeKnown}
+use Rattle.calls.specs.declared.Aim.{Aim}
+use Rattle.calls.specs.declared.Aim.the-variants as Aim
 use Rattle.calls.specs.Stream.{NextInside, streamed, stoppedOr, streamFrom}
 use Rattle.calls.proofs.Way.{slot-same}
 use Rattle.calls.proofs.WellMadeTables.{each-byte, all-well-made}
-use Rattle.book.proofs.Going.{slot-known, gone-after}
-use Rattle.book.proofs.Turning.{frameAt, Goes, Turn, Point, ticketIn, partIn, turned, steps}
-use Rattle.calls.proofs.Streaming.{ends, stops, full}
+use Rattle.calls.proofs.Streaming.{stops, full}
+use Rattle.book.proofs.Going.{team-inside, team-known-frame, edit-fields, read-allowed, gone-after, refused-by, look-by, step-by, opened-by, unopened-by, team-by}
+use Rattle.book.proofs.Turning.{frameAt, Goes, ended, Aimed, aimed-as, Turn, Point, frameIn, slotIn, ticketIn, slot-known-made, edit-known, turned}
 use Rattle.book.proofs.answer_frames.Statement.{statement}
 use Rattle.book.proofs.answer_frames.Tie as tie
 
 abbrev Inv-loop : tie.InvT-loop
-Inv-loop book₀ input out₀ tickets₀ known at₀ filled₀ left₀ = Goes input (length out₀) (streamFrom (length input) book₀ tickets₀ input out₀ 0 0) known
+Inv-loop book₀ input out₀ tickets₀ known gone at₀ filled₀ = Goes input (length out₀) (streamFrom (length input) book₀ tickets₀ input out₀ 0 0) known
 
 abbrev μ-loop : tie.MeasureT-loop
-μ-loop book₀ input out₀ tickets₀ known at₀ filled₀ left₀ book out tickets at filled left = left
+μ-loop book₀ input out₀ tickets₀ known gone at₀ filled₀ book out tickets at filled = length input - at
 
 all-well-made-requires : tie.Need-all-well-made-requires Inv-loop μ-loop
 all-well-made-requires c κs = search needs
+
+none-requires : tie.Need-none-requires Inv-loop μ-loop
+none-requires c κs = search needs
 
 loop-holds : tie.Need-loop-holds Inv-loop μ-loop
 loop-holds c = (
@@ -30,12 +41,9 @@ loop-holds c = (
   search needs,
   search needs,
   search needs,
-  search needs,
-  λ known. all-well-made _ (sym (c .all-well-made .ensures) ∙ known),
+  record { most = length (now (c .before .before .before .before .before .args .input)); enough = omega arith; is = refl },
+  λ known. all-well-made _ (sym (c .before .all-well-made .ensures) ∙ known),
 )
-
-sub-left : tie.Need-sub-left Inv-loop μ-loop
-sub-left c = search needs
 
 next-frame-requires : tie.Need-next-frame-requires Inv-loop μ-loop
 next-frame-requires c κs = search needs
@@ -59,17 +67,19 @@ same-length-2 : tie.Need-same-length-2 Inv-loop μ-loop
 same-length-2 c = search needs
 
 returns : tie.Need-returns Inv-loop μ-loop
-returns c =
+returns c = 
     let loop = c .before .before .before .before .before .before .loop in
-    let input = now (c .before .before .before .before .before .before .before .before .before .before .before .args .input) in
+    let input = (now (c .before .before .before .before .before .before .before .before .before .before .before .before .args .input)) in
     let told = c .before .before .enum-told .given in
+    let left = loop .inv .4 in
+    let some : 0 < left .most = omega (arith, left .enough, c .before .before .before .before .before .loop-test .taken) in
     let stop = c .before .stop-of .ensures ∙ ap (λ n. stoppedOr n (λ s. s) (λ size. MoreInput)) (told .1) in
     let is = c .stopped .ensures in (
       (omega (arith, ap (λ r. r .consumed) is, loop .inv .1), omega (arith, ap (λ r. r .written) is, loop .inv .2, loop .inv .3)),
       (λ i. (is i, loop .book, loop .out))
           ∙ (λ i. (streamed (loop .tickets) (loop .at) (loop .filled) (stop i), loop .book, loop .out))
-          ∙ sym (stops (loop .book) (loop .tickets) input (loop .out) (loop .at) (loop .filled) (loop .left) (told .0 .0) (c .before .before .before .before .before .loop-test .taken) (sym (c .before .before .before .before .next-frame .ensures .0) ∙ told .1))
-          ∙ loop .inv .4,
+          ∙ sym (stops (loop .book) (loop .tickets) input (loop .out) (loop .at) (loop .filled) (left .most) (told .0 .0) some (sym (c .before .before .before .before .next-frame .ensures .0) ∙ told .1))
+          ∙ left .is,
     )
 
 sub-if1 : tie.Need-sub-if1 Inv-loop μ-loop
@@ -85,21 +95,23 @@ same-length-4 : tie.Need-same-length-4 Inv-loop μ-loop
 same-length-4 c = search needs
 
 returns-2 : tie.Need-returns-2 Inv-loop μ-loop
-returns-2 c =
+returns-2 c = 
     let loop = c .before .before .before .before .before .before .before .loop in
-    let input = now (c .before .before .before .before .before .before .before .before .before .before .before .before .args .input) in
+    let input = (now (c .before .before .before .before .before .before .before .before .before .before .before .before .before .args .input)) in
     let given = c .before .before .before .next .given in
+    let left = loop .inv .4 in
+    let some : 0 < left .most = omega (arith, left .enough, c .before .before .before .before .before .before .loop-test .taken) in
     let next = sym (c .before .before .before .before .before .next-frame .ensures .0) ∙ given .1 in
     let is = c .stopped2 .ensures in (
       (omega (arith, ap (λ r. r .consumed) is, loop .inv .1), omega (arith, ap (λ r. r .written) is, loop .inv .2, loop .inv .3)),
       (λ i. (is i, loop .book, loop .out))
-          ∙ sym (full (loop .book) (loop .tickets) input (loop .out) (loop .at) (loop .filled) (loop .left) (given .0 .0) (c .before .before .before .before .before .before .loop-test .taken) next (c .before .if1 .taken))
-          ∙ loop .inv .4,
+          ∙ sym (full (loop .book) (loop .tickets) input (loop .out) (loop .at) (loop .filled) (left .most) (given .0 .0) some next (c .before .if1 .taken))
+          ∙ left .is,
     )
 
 add-end : tie.Need-add-end Inv-loop μ-loop
-add-end c =
-    let inside = subst (NextInside (now (c .before .before .before .before .before .before .before .before .before .before .before .args .input)) (c .before .before .before .before .before .before .loop .at)) (c .before .before .next .given .1) (c .before .before .before .before .next-frame .ensures .1) in
+add-end c = 
+    let inside = subst (NextInside (now (c .before .before .before .before .before .before .before .before .before .before .before .before .args .input)) (c .before .before .before .before .before .before .loop .at)) (c .before .before .next .given .1) (c .before .before .before .before .next-frame .ensures .1) in
     omega (arith, inside .1)
 
 sub-frame : tie.Need-sub-frame Inv-loop μ-loop
@@ -109,30 +121,22 @@ part-frame-start : tie.Need-part-frame-start Inv-loop μ-loop
 part-frame-start c = search needs
 
 part-frame-end : tie.Need-part-frame-end Inv-loop μ-loop
-part-frame-end c =
-    let inside = subst (NextInside (now (c .before .before .before .before .before .before .before .before .before .before .before .args .input)) (c .before .before .before .before .before .before .loop .at)) (c .before .before .next .given .1) (c .before .before .before .before .next-frame .ensures .1) in
+part-frame-end c = 
+    let inside = subst (NextInside (now (c .before .before .before .before .before .before .before .before .before .before .before .before .args .input)) (c .before .before .before .before .before .before .loop .at)) (c .before .before .next .given .1) (c .before .before .before .before .next-frame .ensures .1) in
     inside .1
 
 aim-of-requires : tie.Need-aim-of-requires Inv-loop μ-loop
 aim-of-requires c κs = search needs
 
-slot-of-requires : tie.Need-slot-of-requires Inv-loop μ-loop
-slot-of-requires c κs = slot-known (frameAt (now (c .before .before .before .before .before .before .before .before .before .before .before .before .before .args .input)) (c .before .before .before .before .before .before .before .before .loop .at) (c .before .before .before .before .next .given .0 .0)) (c .aim-of .result) (c .aim-of .ensures .1)
+-- The frame found.
+abbrev frame-at : Point aim-of-requires → Bytes
+frame-at c = frameAt (now (c .before .before .before .before .before .before .before .before .before .before .before .before .before .args .input)) (c .before .before .before .before .before .before .before .loop .at) (c .before .before .before .next .given .0 .0)
 
-mul-ticket : tie.Need-mul-ticket Inv-loop μ-loop
-mul-ticket c = search needs
-
-element-copy-out-ticket : tie.Need-element-copy-out-ticket Inv-loop μ-loop
-element-copy-out-ticket c = search needs
-
-settle-requires : tie.Need-settle-requires Inv-loop μ-loop
-settle-requires c κs = (search needs, search needs, λ known. c .before .before .before .before .before .before .before .before .before .before .before .loop .inv .5 known (c .before .before .slot-of .result) (c .before .before .slot-of .ensures .1))
-
--- Where a frame is settled.
-abbrev turn-of : Point settle-requires → Turn
-turn-of c =
-    let loop = c .before .before .before .before .before .before .before .before .before .before .before .loop in
-    let input = now (c .before .before .before .before .before .before .before .before .before .before .before .before .before .before .before .before .args .input) in
+-- Where it is answered, by its aim.
+abbrev turn-of : (c : Point aim-of-requires) (aim : Aim) → Aimed (frame-at c) aim → Turn
+turn-of c aim aimed =
+    let loop = c .before .before .before .before .before .before .before .loop in
+    let input = (now (c .before .before .before .before .before .before .before .before .before .before .before .before .before .args .input)) in
     record {
       input = input;
       long = _;
@@ -143,132 +147,275 @@ turn-of c =
       tickets = loop .tickets;
       at = loop .at;
       filled = loop .filled;
-      left = loop .left;
       goes = loop .inv;
-      bytes = each-byte input (λ place. omega (arith, c .before .before .before .before .before .before .before .before .before .before .before .before .before .before .shared-slice-known .given place));
-      some = c .before .before .before .before .before .before .before .before .before .before .loop-test .taken;
-      found = c .before .before .before .before .before .before .before .before .before .next-frame .result;
-      found-is = c .before .before .before .before .before .before .before .before .before .next-frame .ensures;
-      size = c .before .before .before .before .before .before .before .next .given .0 .0;
-      sized = c .before .before .before .before .before .before .before .next .given .1;
-      room = c .before .before .before .before .before .if1 .left;
-      aim = c .before .before .before .aim-of .result;
-      aimed = c .before .before .before .aim-of .ensures;
-      slot = c .before .before .slot-of .result;
-      slotted = c .before .before .slot-of .ensures;
+      bytes = each-byte input (λ place. omega (arith, c .before .before .before .before .before .before .before .before .before .before .before .shared-slice-known .given place));
+      some = c .before .before .before .before .before .before .loop-test .taken;
+      found = c .before .before .before .before .before .next-frame .result;
+      found-is = c .before .before .before .before .before .next-frame .ensures;
+      size = c .before .before .before .next .given .0 .0;
+      sized = c .before .before .before .next .given .1;
+      room = c .before .if1 .left;
+      aim = aim;
+      aimed = aimed;
     }
 
-enum-known-outcome : tie.Need-enum-known-outcome Inv-loop μ-loop
-enum-known-outcome c = search needs
+enum-known-aim : tie.Need-enum-known-aim Inv-loop μ-loop
+enum-known-aim c = search needs
 
-put-answer-requires : tie.Need-put-answer-requires Inv-loop μ-loop
-put-answer-requires c κs = search needs
+put-refused-requires : tie.Need-put-refused-requires Inv-loop μ-loop
+put-refused-requires c κs = search needs
 
 loop-less : tie.Need-loop-less Inv-loop μ-loop
-loop-less c = omega (arith, c .before .before .before .before .before .before .before .before .before .before .before .before .before .before .before .before .before .before .before .before .loop-test .taken)
+loop-less c = 
+    let inside = subst (NextInside (now (c .before .before .before .before .before .before .before .before .before .before .before .before .before .before .before .before .before .before .before .before .before .args .input)) (c .before .before .before .before .before .before .before .before .before .before .before .before .before .before .before .loop .at)) (c .before .before .before .before .before .before .before .before .before .before .before .next .given .1) (c .before .before .before .before .before .before .before .before .before .before .before .before .before .next-frame .ensures .1) in
+    omega (arith, c .before .before .before .before .before .before .before .before .before .before .before .before .before .before .loop-test .taken, inside .0, inside .1)
 
 loop-again : tie.Need-loop-again Inv-loop μ-loop
-loop-again c =
-    let outcome = c .before .before .before .before .before .before .before .before .before .settle in
-    let turn = turn-of (c .before .before .before .before .before .before .before .before .before .before) in
-    turned turn (outcome .last .0) (outcome .ensures .0) (c .before .before .before .before .before .outcome .given .1) refl (sym (slot-same (turn .tickets) (turn .slot))) (search needs) (c .before .before .put-answer .ensures)
+loop-again c = 
+    let turn = turn-of (c .before .before .before .before .before .before .before .before) _ (aimed-as (frame-at (c .before .before .before .before .before .before .before .before)) (c .before .before .before .before .before .before .before .aim-of .ensures) (c .before .before .before .before .before .aim .given .1)) in
+    turned turn (refused-by (turn .words) (ticketIn turn) (frameIn turn) _) (sym (slot-same (turn .tickets) (slotIn turn))) (search needs) (c .before .before .put-refused .ensures)
 
-enum-known-outcome-2 : tie.Need-enum-known-outcome-2 Inv-loop μ-loop
-enum-known-outcome-2 c = search needs
+enum-told-2 : tie.Need-enum-told-2 Inv-loop μ-loop
+enum-told-2 c = search needs
 
-put-answer-requires-2 : tie.Need-put-answer-requires-2 Inv-loop μ-loop
-put-answer-requires-2 c κs = search needs
+part-after-kind-requires : tie.Need-part-after-kind-requires Inv-loop μ-loop
+part-after-kind-requires c κs = (aimed-as (frame-at (c .before .before .before)) (c .before .before .aim-of .ensures) (c .enum-told2 .given .1)) .1 .head
+
+read16-requires : tie.Need-read16-requires Inv-loop μ-loop
+read16-requires c κs = subst (λ l. 1 < length l) (sym (c .part-after-kind .ensures)) (team-inside (frame-at (c .before .before .before .before)) _ ((aimed-as (frame-at (c .before .before .before .before)) (c .before .before .before .aim-of .ensures) (c .before .enum-told2 .given .1)) .1))
+
+put-look-requires : tie.Need-put-look-requires Inv-loop μ-loop
+put-look-requires c κs = search needs
 
 loop-less-2 : tie.Need-loop-less-2 Inv-loop μ-loop
-loop-less-2 c = omega (arith, c .before .before .before .before .before .before .before .before .before .before .before .before .before .before .before .before .before .before .before .before .loop-test .taken)
+loop-less-2 c = 
+    let inside = subst (NextInside (now (c .before .before .before .before .before .before .before .before .before .before .before .before .before .before .before .before .before .before .before .before .before .before .before .args .input)) (c .before .before .before .before .before .before .before .before .before .before .before .before .before .before .before .before .before .loop .at)) (c .before .before .before .before .before .before .before .before .before .before .before .before .before .next .given .1) (c .before .before .before .before .before .before .before .before .before .before .before .before .before .before .before .next-frame .ensures .1) in
+    omega (arith, c .before .before .before .before .before .before .before .before .before .before .before .before .before .before .before .before .loop-test .taken, inside .0, inside .1)
 
 loop-again-2 : tie.Need-loop-again-2 Inv-loop μ-loop
-loop-again-2 c =
-    let outcome = c .before .before .before .before .before .before .before .before .before .settle in
-    let turn = turn-of (c .before .before .before .before .before .before .before .before .before .before) in
-    turned turn (outcome .last .0) (outcome .ensures .0) (c .before .before .before .before .before .outcome2 .given .1) refl (sym (slot-same (turn .tickets) (turn .slot))) (search needs) (c .before .before .put-answer2 .ensures)
+loop-again-2 c = 
+    let turn = turn-of (c .before .before .before .before .before .before .before .before .before .before) _ (aimed-as (frame-at (c .before .before .before .before .before .before .before .before .before .before)) (c .before .before .before .before .before .before .before .before .before .aim-of .ensures) (c .before .before .before .before .before .before .before .enum-told2 .given .1)) in
+    let word = c .before .before .before .before .before .read16 .ensures .0 ∙ ap (λ l. number16 l 0) (c .before .before .before .before .before .before .part-after-kind .ensures) in
+    turned turn (look-by (turn .words) (ticketIn turn) (frameIn turn) _ word) (sym (slot-same (turn .tickets) (slotIn turn))) (search needs) (c .before .before .put-look .ensures)
 
-enum-known-outcome-3 : tie.Need-enum-known-outcome-3 Inv-loop μ-loop
-enum-known-outcome-3 c = search needs
+enum-known-aim-2 : tie.Need-enum-known-aim-2 Inv-loop μ-loop
+enum-known-aim-2 c = search needs
+
+cast-slot : tie.Need-cast-slot Inv-loop μ-loop
+cast-slot c = search needs
+
+-- A team's frame, with its kind and its team.
+abbrev kind-at : Point cast-slot → ℕ
+kind-at c = c .before .aim2 .given .0 .0
+
+abbrev team-at : Point cast-slot → ℕ
+team-at c = c .before .aim2 .given .0 .1 .0
+
+team-aimed : (c : Point cast-slot) → Aimed (frame-at (c .before .before .before .before)) (Aim.Team (kind-at c) (team-at c))
+team-aimed c = aimed-as (frame-at (c .before .before .before .before)) (c .before .before .before .aim-of .ensures) (c .before .aim2 .given .1)
+
+abbrev team-turn : Point cast-slot → Turn
+team-turn c = turn-of (c .before .before .before .before) (Aim.Team (kind-at c) (team-at c)) (team-aimed c)
+
+mul-ticket : tie.Need-mul-ticket Inv-loop μ-loop
+mul-ticket c = omega (arith, team-aimed (c) .1 .2)
+
+element-copy-out-ticket : tie.Need-element-copy-out-ticket Inv-loop μ-loop
+element-copy-out-ticket c = omega (arith, team-aimed (c) .1 .2)
+
+steps-edit-requires : tie.Need-steps-edit-requires Inv-loop μ-loop
+steps-edit-requires c κs = search needs
+
+swap-requires : tie.Need-swap-requires Inv-loop μ-loop
+swap-requires c κs = 
+    let known = edit-known (team-turn (c .before .before .before .before)) (kind-at (c .before .before .before .before)) (sym (c .before .before .steps-edit .ensures) ∙ c .before .if2 .taken) in
+    (search needs, known .made, known .edit, team-aimed (c .before .before .before .before) .1 .2)
+
+goes-on-requires : tie.Need-goes-on-requires Inv-loop μ-loop
+goes-on-requires c κs = 
+    let known = edit-known (team-turn (c .before .before .before .before .before .before .before)) (kind-at (c .before .before .before .before .before .before .before)) (sym (c .before .before .before .before .before .steps-edit .ensures) ∙ c .before .before .before .before .if2 .taken) in
+    (next-in-room _ (known .made) (known .edit), made _ (known .made) .most)
+
+went-on-requires : tie.Need-went-on-requires Inv-loop μ-loop
+went-on-requires c κs = 
+    let known = edit-known (team-turn (c .before .before .before .before .before .before .before .before .before)) (kind-at (c .before .before .before .before .before .before .before .before .before)) (sym (c .before .before .before .before .before .before .before .steps-edit .ensures) ∙ c .before .before .before .before .before .before .if2 .taken) in
+    next-in-room _ (known .made) (known .edit)
+
+mul-after : tie.Need-mul-after Inv-loop μ-loop
+mul-after c = omega (arith, team-aimed (c .before .before .before .before .before .before .before .before .before .before) .1 .2)
+
+element-set-from-after : tie.Need-element-set-from-after Inv-loop μ-loop
+element-set-from-after c = omega (arith, team-aimed (c .before .before .before .before .before .before .before .before .before .before) .1 .2)
+
+put-went-requires : tie.Need-put-went-requires Inv-loop μ-loop
+put-went-requires c κs = 
+    let known = edit-known (team-turn (c .before .before .before .before .before .before .before .before .before .before .before)) (kind-at (c .before .before .before .before .before .before .before .before .before .before .before)) (sym (c .before .before .before .before .before .before .before .before .before .steps-edit .ensures) ∙ c .before .before .before .before .before .before .before .before .if2 .taken) in
+    (search needs, search needs, next-in-room _ (known .made) (known .edit))
+
+loop-less-3 : tie.Need-loop-less-3 Inv-loop μ-loop
+loop-less-3 c = 
+    let inside = subst (NextInside (now (c .before .before .before .before .before .before .before .before .before .before .before .before .before .before .before .before .before .before .before .before .before .before .before .before .before .before .before .before .before .before .before .args .input)) (c .before .before .before .before .before .before .before .before .before .before .before .before .before .before .before .before .before .before .before .before .before .before .before .before .before .loop .at)) (c .before .before .before .before .before .before .before .before .before .before .before .before .before .before .before .before .before .before .before .before .before .next .given .1) (c .before .before .before .before .before .before .before .before .before .before .before .before .before .before .before .before .before .before .before .before .before .before .before .next-frame .ensures .1) in
+    omega (arith, c .before .before .before .before .before .before .before .before .before .before .before .before .before .before .before .before .before .before .before .before .before .before .before .before .loop-test .taken, inside .0, inside .1)
+
+loop-again-3 : tie.Need-loop-again-3 Inv-loop μ-loop
+loop-again-3 c = 
+    let turn = team-turn (c .before .before .before .before .before .before .before .before .before .before .before .before .before .before) in
+    let known = edit-known (team-turn (c .before .before .before .before .before .before .before .before .before .before .before .before .before .before)) (kind-at (c .before .before .before .before .before .before .before .before .before .before .before .before .before .before)) (sym (c .before .before .before .before .before .before .before .before .before .before .before .before .steps-edit .ensures) ∙ c .before .before .before .before .before .before .before .before .before .before .before .if2 .taken) in
+    let swapped = c .before .before .before .before .before .before .before .before .before .swap in
+    let on = sym (c .before .before .before .before .before .before .goes-on .ensures) ∙ c .before .before .before .before .before .if3 .taken in
+    let went = going-is-settled (turn .words) (ticketIn turn) (team-at (c .before .before .before .before .before .before .before .before .before .before .before .before .before .before)) (swapped .result .found) (known .made) (known .edit) (subst (λ (expected : ℕ). goesOn (ticketIn turn) expected (swapped .result .found) ≡ true) (swapped .ensures .0) on) in
+    turned turn
+    (step-by (turn .words) (ticketIn turn) (frameIn turn) (kind-at (c .before .before .before .before .before .before .before .before .before .before .before .before .before .before)) (team-at (c .before .before .before .before .before .before .before .before .before .before .before .before .before .before)) (swapped .result .found) (known .stands) (known .made) (known .step) (swapped .ensures .1) ((λ i. stepped (c .before .before .before .before .went-on .ensures i) (wentAnswer (ticketIn turn .phase) (nextOf (ticketIn turn) + 1))) ∙ went))
+    refl (search needs) (c .before .before .put-went .ensures)
+
+answer-to-requires : tie.Need-answer-to-requires Inv-loop μ-loop
+answer-to-requires c κs = 
+    let known = edit-known (team-turn (c .before .before .before .before .before .before .before .before .before)) (kind-at (c .before .before .before .before .before .before .before .before .before)) (sym (c .before .before .before .before .before .before .before .steps-edit .ensures) ∙ c .before .before .before .before .before .before .if2 .taken) in
+    (known .made, known .edit)
 
 finishes-requires : tie.Need-finishes-requires Inv-loop μ-loop
 finishes-requires c κs = search needs
 
-none-requires : tie.Need-none-requires Inv-loop μ-loop
-none-requires c κs = search needs
-
 mul-gone : tie.Need-mul-gone Inv-loop μ-loop
-mul-gone c = search needs
+mul-gone c = omega (arith, team-aimed (c .before .before .before .before .before .before .before .before .before .before .before .before) .1 .2)
 
 element-set-from-gone : tie.Need-element-set-from-gone Inv-loop μ-loop
-element-set-from-gone c = search needs
+element-set-from-gone c = omega (arith, team-aimed (c .before .before .before .before .before .before .before .before .before .before .before .before) .1 .2)
 
 put-step-requires : tie.Need-put-step-requires Inv-loop μ-loop
 put-step-requires c κs = search needs
 
-loop-less-3 : tie.Need-loop-less-3 Inv-loop μ-loop
-loop-less-3 c = omega (arith, c .before .before .before .before .before .before .before .before .before .before .before .before .before .before .before .before .before .before .before .before .before .before .before .loop-test .taken)
+loop-less-4 : tie.Need-loop-less-4 Inv-loop μ-loop
+loop-less-4 c = 
+    let inside = subst (NextInside (now (c .before .before .before .before .before .before .before .before .before .before .before .before .before .before .before .before .before .before .before .before .before .before .before .before .before .before .before .before .before .before .before .before .before .args .input)) (c .before .before .before .before .before .before .before .before .before .before .before .before .before .before .before .before .before .before .before .before .before .before .before .before .before .before .before .loop .at)) (c .before .before .before .before .before .before .before .before .before .before .before .before .before .before .before .before .before .before .before .before .before .before .before .next .given .1) (c .before .before .before .before .before .before .before .before .before .before .before .before .before .before .before .before .before .before .before .before .before .before .before .before .before .next-frame .ensures .1) in
+    omega (arith, c .before .before .before .before .before .before .before .before .before .before .before .before .before .before .before .before .before .before .before .before .before .before .before .before .before .before .loop-test .taken, inside .0, inside .1)
 
-loop-again-3 : tie.Need-loop-again-3 Inv-loop μ-loop
-loop-again-3 c =
-    let outcome = c .before .before .before .before .before .before .before .before .before .before .before .before .settle in
-    let turn = turn-of (c .before .before .before .before .before .before .before .before .before .before .before .before .before) in
-    turned turn (outcome .last .0) (outcome .ensures .0) (c .before .before .before .before .before .before .before .before .outcome3 .given .1) (steps (ticketIn turn) (c .before .before .before .before .before .before .before .before .outcome3 .given .0 .0) (c .before .before .before .before .none .ensures ∙ gone-after (ticketIn turn) (c .before .before .before .before .before .before .before .before .outcome3 .given .0 .0) (sym (c .before .before .before .before .before .before .finishes .ensures) ∙ c .before .before .before .before .before .if2 .taken))) refl (search needs) (c .before .before .put-step .ensures)
+loop-again-4 : tie.Need-loop-again-4 Inv-loop μ-loop
+loop-again-4 c = 
+    let turn = team-turn (c .before .before .before .before .before .before .before .before .before .before .before .before .before .before .before .before) in
+    let known = edit-known (team-turn (c .before .before .before .before .before .before .before .before .before .before .before .before .before .before .before .before)) (kind-at (c .before .before .before .before .before .before .before .before .before .before .before .before .before .before .before .before)) (sym (c .before .before .before .before .before .before .before .before .before .before .before .before .before .before .steps-edit .ensures) ∙ c .before .before .before .before .before .before .before .before .before .before .before .before .before .if2 .taken) in
+    let swapped = c .before .before .before .before .before .before .before .before .before .before .before .swap in
+    let answer = c .before .before .before .before .before .before .answer-to in
+    turned turn
+    (step-by (turn .words) (ticketIn turn) (frameIn turn) (kind-at (c .before .before .before .before .before .before .before .before .before .before .before .before .before .before .before .before)) (team-at (c .before .before .before .before .before .before .before .before .before .before .before .before .before .before .before .before)) (swapped .result .found) (known .stands) (known .made) (known .step) (swapped .ensures .1) ((λ i. stepped ((c .before .before .before .before .before .before .before .before .before .before .before .before .before .before .before .before .before .before .before .before .before .before .before .before .before .before .before .before .none .ensures ∙ gone-after (ticketIn turn) (answer .result) (sym (c .before .before .before .before .before .finishes .ensures) ∙ c .before .before .before .before .if4 .taken)) i) (asStep (answer .result))) ∙ answer .ensures .0))
+    refl (search needs) (c .before .before .put-step .ensures)
 
 after-requires : tie.Need-after-requires Inv-loop μ-loop
-after-requires c κs =
-    let turn = turn-of (c .before .before .before .before .before .before .before .before) in
-    (sym (c .before .finishes .ensures) ∙ c .if2 .left, subst (OutcomeKnown (ticketIn turn) (partIn turn)) (c .before .before .before .outcome3 .given .1) (c .before .before .before .before .before .before .before .settle .ensures .1))
+after-requires c κs = (sym (c .before .finishes .ensures) ∙ c .if4 .left, c .before .before .answer-to .ensures .1)
 
-mul-after : tie.Need-mul-after Inv-loop μ-loop
-mul-after c = search needs
+mul-after-2 : tie.Need-mul-after-2 Inv-loop μ-loop
+mul-after-2 c = omega (arith, team-aimed (c .before .before .before .before .before .before .before .before .before .before .before .before .before) .1 .2)
 
-element-set-from-after : tie.Need-element-set-from-after Inv-loop μ-loop
-element-set-from-after c = search needs
+element-set-from-after-2 : tie.Need-element-set-from-after-2 Inv-loop μ-loop
+element-set-from-after-2 c = omega (arith, team-aimed (c .before .before .before .before .before .before .before .before .before .before .before .before .before) .1 .2)
 
 put-step-requires-2 : tie.Need-put-step-requires-2 Inv-loop μ-loop
 put-step-requires-2 c κs = search needs
 
-loop-less-4 : tie.Need-loop-less-4 Inv-loop μ-loop
-loop-less-4 c = omega (arith, c .before .before .before .before .before .before .before .before .before .before .before .before .before .before .before .before .before .before .before .before .before .before .before .loop-test .taken)
-
-loop-again-4 : tie.Need-loop-again-4 Inv-loop μ-loop
-loop-again-4 c =
-    let outcome = c .before .before .before .before .before .before .before .before .before .before .before .before .settle in
-    let turn = turn-of (c .before .before .before .before .before .before .before .before .before .before .before .before .before) in
-    turned turn (outcome .last .0) (outcome .ensures .0) (c .before .before .before .before .before .before .before .before .outcome3 .given .1) (steps (ticketIn turn) (c .before .before .before .before .before .before .before .before .outcome3 .given .0 .0) (c .before .before .before .before .after .ensures)) refl (search needs) (c .before .before .put-step2 .ensures)
-
-enum-known-outcome-4 : tie.Need-enum-known-outcome-4 Inv-loop μ-loop
-enum-known-outcome-4 c = search needs
-
-mul-whole : tie.Need-mul-whole Inv-loop μ-loop
-mul-whole c = search needs
-
-element-copy-out-whole : tie.Need-element-copy-out-whole Inv-loop μ-loop
-element-copy-out-whole c = search needs
-
-make-anew-requires : tie.Need-make-anew-requires Inv-loop μ-loop
-make-anew-requires c κs =
-    let turn = turn-of (c .before .before .before .before .before .before .before .before) in
-    (search needs, subst (OutcomeKnown (ticketIn turn) (partIn turn)) (c .before .before .before .outcome4 .given .1) (c .before .before .before .before .before .before .before .settle .ensures .1))
-
-mul-next : tie.Need-mul-next Inv-loop μ-loop
-mul-next c = search needs
-
-element-set-from-next : tie.Need-element-set-from-next Inv-loop μ-loop
-element-set-from-next c = search needs
-
-put-answer-requires-3 : tie.Need-put-answer-requires-3 Inv-loop μ-loop
-put-answer-requires-3 c κs = search needs
-
 loop-less-5 : tie.Need-loop-less-5 Inv-loop μ-loop
-loop-less-5 c = omega (arith, c .before .before .before .before .before .before .before .before .before .before .before .before .before .before .before .before .before .before .before .before .before .before .before .before .before .before .loop-test .taken)
+loop-less-5 c = 
+    let inside = subst (NextInside (now (c .before .before .before .before .before .before .before .before .before .before .before .before .before .before .before .before .before .before .before .before .before .before .before .before .before .before .before .before .before .before .before .before .before .before .args .input)) (c .before .before .before .before .before .before .before .before .before .before .before .before .before .before .before .before .before .before .before .before .before .before .before .before .before .before .before .before .loop .at)) (c .before .before .before .before .before .before .before .before .before .before .before .before .before .before .before .before .before .before .before .before .before .before .before .before .next .given .1) (c .before .before .before .before .before .before .before .before .before .before .before .before .before .before .before .before .before .before .before .before .before .before .before .before .before .before .next-frame .ensures .1) in
+    omega (arith, c .before .before .before .before .before .before .before .before .before .before .before .before .before .before .before .before .before .before .before .before .before .before .before .before .before .before .before .loop-test .taken, inside .0, inside .1)
 
 loop-again-5 : tie.Need-loop-again-5 Inv-loop μ-loop
-loop-again-5 c =
-    let outcome = c .before .before .before .before .before .before .before .before .before .before .before .before .before .before .before .settle in
-    let turn = turn-of (c .before .before .before .before .before .before .before .before .before .before .before .before .before .before .before .before) in
-    turned turn (outcome .last .0) (outcome .ensures .0) (c .before .before .before .before .before .before .before .before .before .before .before .outcome4 .given .1) (c .before .before .before .before .before .before .before .make-anew .ensures) refl (search needs) (c .before .before .put-answer3 .ensures)
+loop-again-5 c = 
+    let turn = team-turn (c .before .before .before .before .before .before .before .before .before .before .before .before .before .before .before .before .before) in
+    let known = edit-known (team-turn (c .before .before .before .before .before .before .before .before .before .before .before .before .before .before .before .before .before)) (kind-at (c .before .before .before .before .before .before .before .before .before .before .before .before .before .before .before .before .before)) (sym (c .before .before .before .before .before .before .before .before .before .before .before .before .before .before .before .steps-edit .ensures) ∙ c .before .before .before .before .before .before .before .before .before .before .before .before .before .before .if2 .taken) in
+    let swapped = c .before .before .before .before .before .before .before .before .before .before .before .before .swap in
+    let answer = c .before .before .before .before .before .before .before .answer-to in
+    turned turn
+    (step-by (turn .words) (ticketIn turn) (frameIn turn) (kind-at (c .before .before .before .before .before .before .before .before .before .before .before .before .before .before .before .before .before)) (team-at (c .before .before .before .before .before .before .before .before .before .before .before .before .before .before .before .before .before)) (swapped .result .found) (known .stands) (known .made) (known .step) (swapped .ensures .1) ((λ i. stepped (c .before .before .before .before .after .ensures i) (asStep (answer .result))) ∙ answer .ensures .0))
+    refl (search needs) (c .before .before .put-step2 .ensures)
+
+opens-edit-requires : tie.Need-opens-edit-requires Inv-loop μ-loop
+opens-edit-requires c κs = search needs
+
+part-after-kind-requires-2 : tie.Need-part-after-kind-requires-2 Inv-loop μ-loop
+part-after-kind-requires-2 c κs = team-aimed (c .before .before .before .before .before) .1 .0 .head
+
+read-edit-requires : tie.Need-read-edit-requires Inv-loop μ-loop
+read-edit-requires c κs = 
+    let turn = team-turn (c .before .before .before .before .before .before) in
+    let fields = edit-fields (turn .words) (ticketIn turn) _ (kind-at (c .before .before .before .before .before .before)) (team-at (c .before .before .before .before .before .before)) (sym (c .before .before .opens-edit .ensures) ∙ c .before .if5 .taken) (team-known-frame (turn .words) (frameIn turn) (kind-at (c .before .before .before .before .before .before)) (team-at (c .before .before .before .before .before .before)) _ (turn .goes .0) (turn .aimed .1) (c .part-after-kind2 .ensures)) in
+    (fields .first, omega (arith, fields .last), fields .long)
+
+enum-known-read : tie.Need-enum-known-read Inv-loop μ-loop
+enum-known-read c = search needs
+
+opened-requires : tie.Need-opened-requires Inv-loop μ-loop
+opened-requires c κs = read-allowed _ _ (sym (c .before .before .before .read-edit .ensures) ∙ c .before .read .given .1)
+
+mul-opened : tie.Need-mul-opened Inv-loop μ-loop
+mul-opened c = omega (arith, team-aimed (c .before .before .before .before .before .before .before .before .before .before .before) .1 .2)
+
+element-set-from-opened : tie.Need-element-set-from-opened Inv-loop μ-loop
+element-set-from-opened c = omega (arith, team-aimed (c .before .before .before .before .before .before .before .before .before .before .before) .1 .2)
+
+put-standing-requires : tie.Need-put-standing-requires Inv-loop μ-loop
+put-standing-requires c κs = search needs
+
+loop-less-6 : tie.Need-loop-less-6 Inv-loop μ-loop
+loop-less-6 c = 
+    let inside = subst (NextInside (now (c .before .before .before .before .before .before .before .before .before .before .before .before .before .before .before .before .before .before .before .before .before .before .before .before .before .before .before .before .before .before .before .before .args .input)) (c .before .before .before .before .before .before .before .before .before .before .before .before .before .before .before .before .before .before .before .before .before .before .before .before .before .before .loop .at)) (c .before .before .before .before .before .before .before .before .before .before .before .before .before .before .before .before .before .before .before .before .before .before .next .given .1) (c .before .before .before .before .before .before .before .before .before .before .before .before .before .before .before .before .before .before .before .before .before .before .before .before .next-frame .ensures .1) in
+    omega (arith, c .before .before .before .before .before .before .before .before .before .before .before .before .before .before .before .before .before .before .before .before .before .before .before .before .before .loop-test .taken, inside .0, inside .1)
+
+loop-again-6 : tie.Need-loop-again-6 Inv-loop μ-loop
+loop-again-6 c = 
+    let turn = team-turn (c .before .before .before .before .before .before .before .before .before .before .before .before .before .before .before) in
+    turned turn
+    (opened-by (turn .words) (ticketIn turn) (frameIn turn) (kind-at (c .before .before .before .before .before .before .before .before .before .before .before .before .before .before .before)) (team-at (c .before .before .before .before .before .before .before .before .before .before .before .before .before .before .before)) _ (c .before .before .before .before .before .before .before .before .read-edit .result) (sym (c .before .before .before .before .before .before .before .before .before .before .before .opens-edit .ensures) ∙ c .before .before .before .before .before .before .before .before .before .before .if5 .taken) (c .before .before .before .before .before .before .before .before .before .part-after-kind2 .ensures) (c .before .before .before .before .before .before .before .before .read-edit .ensures) _ _ (c .before .before .before .before .before .before .read .given .1) (c .before .before .before .before .opened .ensures))
+    refl (search needs) (c .before .before .put-standing .ensures)
+
+enum-known-read-2 : tie.Need-enum-known-read-2 Inv-loop μ-loop
+enum-known-read-2 c = search needs
+
+put-refused-requires-2 : tie.Need-put-refused-requires-2 Inv-loop μ-loop
+put-refused-requires-2 c κs = search needs
+
+loop-less-7 : tie.Need-loop-less-7 Inv-loop μ-loop
+loop-less-7 c = 
+    let inside = subst (NextInside (now (c .before .before .before .before .before .before .before .before .before .before .before .before .before .before .before .before .before .before .before .before .before .before .before .before .before .before .before .before .before .before .before .args .input)) (c .before .before .before .before .before .before .before .before .before .before .before .before .before .before .before .before .before .before .before .before .before .before .before .before .before .loop .at)) (c .before .before .before .before .before .before .before .before .before .before .before .before .before .before .before .before .before .before .before .before .before .next .given .1) (c .before .before .before .before .before .before .before .before .before .before .before .before .before .before .before .before .before .before .before .before .before .before .before .next-frame .ensures .1) in
+    omega (arith, c .before .before .before .before .before .before .before .before .before .before .before .before .before .before .before .before .before .before .before .before .before .before .before .before .loop-test .taken, inside .0, inside .1)
+
+loop-again-7 : tie.Need-loop-again-7 Inv-loop μ-loop
+loop-again-7 c = 
+    let turn = team-turn (c .before .before .before .before .before .before .before .before .before .before .before .before .before .before) in
+    turned turn (unopened-by (turn .words) (ticketIn turn) (frameIn turn) (kind-at (c .before .before .before .before .before .before .before .before .before .before .before .before .before .before)) (team-at (c .before .before .before .before .before .before .before .before .before .before .before .before .before .before)) _ (c .before .before .before .before .before .before .before .read-edit .result) (sym (c .before .before .before .before .before .before .before .before .before .before .opens-edit .ensures) ∙ c .before .before .before .before .before .before .before .before .before .if5 .taken) (c .before .before .before .before .before .before .before .before .part-after-kind2 .ensures) (c .before .before .before .before .before .before .before .read-edit .ensures) _ (c .before .before .before .before .before .read2 .given .1)) (sym (slot-same (turn .tickets) (slotIn turn))) (search needs) (c .before .before .put-refused2 .ensures)
+
+part-after-kind-requires-3 : tie.Need-part-after-kind-requires-3 Inv-loop μ-loop
+part-after-kind-requires-3 c κs = team-aimed (c .before .before .before .before .before) .1 .0 .head
+
+mul-whole : tie.Need-mul-whole Inv-loop μ-loop
+mul-whole c = omega (arith, team-aimed (c .before .before .before .before .before .before) .1 .2)
+
+element-copy-out-whole : tie.Need-element-copy-out-whole Inv-loop μ-loop
+element-copy-out-whole c = omega (arith, team-aimed (c .before .before .before .before .before .before) .1 .2)
+
+team-frame-requires : tie.Need-team-frame-requires Inv-loop μ-loop
+team-frame-requires c κs = 
+    let turn = team-turn (c .before .before .before .before .before .before .before .before) in
+    (team-known-frame (turn .words) (frameIn turn) (kind-at (c .before .before .before .before .before .before .before .before)) (team-at (c .before .before .before .before .before .before .before .before)) _ (turn .goes .0) (turn .aimed .1) (c .before .before .part-after-kind3 .ensures), slot-known-made turn, sym (c .before .before .before .before .opens-edit .ensures) ∙ c .before .before .before .if5 .left)
+
+mul-next : tie.Need-mul-next Inv-loop μ-loop
+mul-next c = omega (arith, team-aimed (c .before .before .before .before .before .before .before .before .before .before .before .before) .1 .2)
+
+element-set-from-next : tie.Need-element-set-from-next Inv-loop μ-loop
+element-set-from-next c = omega (arith, team-aimed (c .before .before .before .before .before .before .before .before .before .before .before .before) .1 .2)
+
+put-answer-requires : tie.Need-put-answer-requires Inv-loop μ-loop
+put-answer-requires c κs = search needs
+
+loop-less-8 : tie.Need-loop-less-8 Inv-loop μ-loop
+loop-less-8 c = 
+    let inside = subst (NextInside (now (c .before .before .before .before .before .before .before .before .before .before .before .before .before .before .before .before .before .before .before .before .before .before .before .before .before .before .before .before .before .before .before .before .before .args .input)) (c .before .before .before .before .before .before .before .before .before .before .before .before .before .before .before .before .before .before .before .before .before .before .before .before .before .before .before .loop .at)) (c .before .before .before .before .before .before .before .before .before .before .before .before .before .before .before .before .before .before .before .before .before .before .before .next .given .1) (c .before .before .before .before .before .before .before .before .before .before .before .before .before .before .before .before .before .before .before .before .before .before .before .before .before .next-frame .ensures .1) in
+    omega (arith, c .before .before .before .before .before .before .before .before .before .before .before .before .before .before .before .before .before .before .before .before .before .before .before .before .before .before .loop-test .taken, inside .0, inside .1)
+
+loop-again-8 : tie.Need-loop-again-8 Inv-loop μ-loop
+loop-again-8 c = 
+    let turn = team-turn (c .before .before .before .before .before .before .before .before .before .before .before .before .before .before .before .before) in
+    turned turn
+    (team-by (turn .words) (ticketIn turn) (frameIn turn) (kind-at (c .before .before .before .before .before .before .before .before .before .before .before .before .before .before .before .before)) (team-at (c .before .before .before .before .before .before .before .before .before .before .before .before .before .before .before .before)) _ (c .before .before .before .before .before .before .before .before .before .before .part-after-kind3 .ensures) (c .before .before .before .before .before .before .before .team-frame .ensures))
+    refl (search needs) (c .before .before .put-answer .ensures)
 
 stopped-requires-3 : tie.Need-stopped-requires-3 Inv-loop μ-loop
 stopped-requires-3 c κs = search needs
@@ -280,14 +427,15 @@ same-length-6 : tie.Need-same-length-6 Inv-loop μ-loop
 same-length-6 c = search needs
 
 returns-3 : tie.Need-returns-3 Inv-loop μ-loop
-returns-3 c =
+returns-3 c = 
     let loop = c .before .before .loop in
-    let input = now (c .before .before .before .before .before .before .before .args .input) in
+    let input = (now (c .before .before .before .before .before .before .before .before .args .input)) in
+    let left = loop .inv .4 in
     let is = c .stopped3 .ensures in (
       (omega (arith, ap (λ r. r .consumed) is, loop .inv .1), omega (arith, ap (λ r. r .written) is, loop .inv .2, loop .inv .3)),
       (λ i. (is i, loop .book, loop .out))
-          ∙ sym (ends (loop .book) (loop .tickets) input (loop .out) (loop .at) (loop .filled) (loop .left) (c .before .loop-test .left))
-          ∙ loop .inv .4,
+          ∙ sym (ended (left .most) (loop .book) (loop .tickets) input (loop .out) (loop .at) (loop .filled) (c .before .loop-test .left))
+          ∙ left .is,
     )
 
 pub answer-frames-spec : {M : Type 1} → statement M
@@ -297,8 +445,8 @@ answer-frames-spec =
     Inv-loop
     μ-loop
     all-well-made-requires
+    none-requires
     loop-holds
-    sub-left
     next-frame-requires
     enum-known-next
     enum-told
@@ -317,41 +465,65 @@ answer-frames-spec =
     part-frame-start
     part-frame-end
     aim-of-requires
-    slot-of-requires
-    mul-ticket
-    element-copy-out-ticket
-    settle-requires
-    enum-known-outcome
-    put-answer-requires
+    enum-known-aim
+    put-refused-requires
     loop-less
     loop-again
-    enum-known-outcome-2
-    put-answer-requires-2
+    enum-told-2
+    part-after-kind-requires
+    read16-requires
+    put-look-requires
     loop-less-2
     loop-again-2
-    enum-known-outcome-3
+    enum-known-aim-2
+    cast-slot
+    mul-ticket
+    element-copy-out-ticket
+    steps-edit-requires
+    swap-requires
+    goes-on-requires
+    went-on-requires
+    mul-after
+    element-set-from-after
+    put-went-requires
+    loop-less-3
+    loop-again-3
+    answer-to-requires
     finishes-requires
-    none-requires
     mul-gone
     element-set-from-gone
     put-step-requires
-    loop-less-3
-    loop-again-3
-    after-requires
-    mul-after
-    element-set-from-after
-    put-step-requires-2
     loop-less-4
     loop-again-4
-    enum-known-outcome-4
-    mul-whole
-    element-copy-out-whole
-    make-anew-requires
-    mul-next
-    element-set-from-next
-    put-answer-requires-3
+    after-requires
+    mul-after-2
+    element-set-from-after-2
+    put-step-requires-2
     loop-less-5
     loop-again-5
+    opens-edit-requires
+    part-after-kind-requires-2
+    read-edit-requires
+    enum-known-read
+    opened-requires
+    mul-opened
+    element-set-from-opened
+    put-standing-requires
+    loop-less-6
+    loop-again-6
+    enum-known-read-2
+    put-refused-requires-2
+    loop-less-7
+    loop-again-7
+    part-after-kind-requires-3
+    mul-whole
+    element-copy-out-whole
+    team-frame-requires
+    mul-next
+    element-set-from-next
+    put-answer-requires
+    loop-less-8
+    loop-again-8
     stopped-requires-3
     same-length-5
     same-length-6

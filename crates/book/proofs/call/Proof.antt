@@ -1,7 +1,5 @@
 -- `book::call` meets its contract: refusals 1 and 2 at once, else the way of the frame.
 use denote.Ref.{now}
-use mathlib.Core.Path.{_∙_}
-use mathlib.Core.Bool.{false≢true}
 use Rattle.book.proofs.Going.{slot-known}
 use Rattle.calls.proofs.Sending.{call-no-book, call-no-room, call-by}
 use borrow.Author.Needs.{needs}
@@ -31,10 +29,7 @@ element-copy-out-ticket : tie.Need-element-copy-out-ticket
 element-copy-out-ticket c = search needs
 
 settle-requires : tie.Need-settle-requires
-settle-requires c κs = (search needs, search needs, λ known. absurd (false≢true known))
-
-settled-by-requires : tie.Need-settled-by-requires
-settled-by-requires c κs = search needs
+settle-requires c κs = search needs
 
 mul-next : tie.Need-mul-next
 mul-next c = search needs
@@ -53,16 +48,15 @@ same-length-2 c = search needs
 
 returns-3 : tie.Need-returns-3
 returns-3 c =
-    let args = c .before .before .before .before .before .before .before .before .before .before .before .before .before .before .before .before .before .before .before .before .before .args in
-    let outcome = c .before .before .before .before .before .before .before .before .before .before .before .settle in
-    let done = c .before .before .before .before .before .before .before .settled-by in
+    let args = c .before .before .before .before .before .before .before .before .before .before .before .before .before .before .before .before .before .args in
+    let done = c .before .before .before .before .before .before .before .settle in
     call-by (now (args .book)) (args .t2) (now (args .frame)) (now (args .out)) _ _ (done .result) (done .last .0) _ _
-    (c .before .before .before .before .before .before .before .before .before .before .before .before .before .before .before .aim-of .ensures .0)
-    (c .before .before .before .before .before .before .before .before .before .before .before .before .before .before .slot-of .ensures .0)
-    (done .ensures ∙ outcome .ensures .0)
+    (c .before .before .before .before .before .before .before .before .before .before .before .aim-of .ensures .0)
+    (c .before .before .before .before .before .before .before .before .before .before .slot-of .ensures .0)
+    (done .ensures)
     (c .before .before .write-answer .ensures .0)
-    (c .before .before .before .before .before .before .before .before .before .before .before .before .before .before .before .before .before .if1 .left)
-    (c .before .before .before .before .before .before .before .before .before .before .before .before .before .before .before .before .if2 .left)
+    (c .before .before .before .before .before .before .before .before .before .before .before .before .before .if1 .left)
+    (c .before .before .before .before .before .before .before .before .before .before .before .before .if2 .left)
 
 pub call-spec : {M : Type 1} → statement M
 call-spec =
@@ -75,7 +69,6 @@ call-spec =
     mul-ticket
     element-copy-out-ticket
     settle-requires
-    settled-by-requires
     mul-next
     element-set-from-next
     write-answer-requires

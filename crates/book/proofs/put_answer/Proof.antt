@@ -1,9 +1,8 @@
--- `book::put_answer` meets its contract: the answer is written in the room from the place on.
-use native.Mathlib.Omega.{arith}
-use mathlib.Core.Path.{ap}
-use Prim.Native.Nat.{_+_}
+-- `book::put_answer` meets its contract: an answer is written in the room from the place on.
+use Rattle.frames.specs.Answers.{answerFrame}
+use mathlib.Core.Path.{refl}
 use denote.Ref.{now}
-use Rattle.calls.specs.Stream.{withRoom}
+use Rattle.book.proofs.Turning.{put-at}
 use borrow.Author.Needs.{needs}
 use Rattle.book.proofs.put_answer.Statement.{statement}
 use Rattle.book.proofs.put_answer.Tie as tie
@@ -29,10 +28,8 @@ same-length c = search needs
 returns : tie.Need-returns
 returns c =
     let start = c .before .before .before .before .before in
-    let sent = c .before .before .write-answer in (
-      (ap (λ p. start .args .at + p .0) (sent .ensures .0), omega (arith, start .pre .0, start .pre .1, sent .ensures .1)),
-      (ap (λ p. withRoom (now (start .args .out)) (start .args .at) (p .1)) (sent .ensures .0), c .before .out .given .1),
-    )
+    let sent = c .before .before .write-answer in
+    put-at (now (start .args .out)) (start .args .at) (answerFrame (start .args .answer)) _ _ _ (start .pre .0) (start .pre .1) (sent .ensures) refl (c .before .out .given .1)
 
 pub put-answer-spec : {M : Type 1} → statement M
 put-answer-spec =

@@ -1,9 +1,10 @@
--- `book::put_step` meets its contract: the answer to a step is written in the room from the place on.
-use native.Mathlib.Omega.{arith}
-use mathlib.Core.Path.{ap}
-use Prim.Native.Nat.{_+_}
+-- `book::put_step` meets its contract: the answer to a step of an edit is written in the room from the place on.
+use Rattle.frames.specs.declared.Answer.the-variants as Answer
+use Rattle.frames.specs.Answers.{answerFrame}
+use Rattle.tickets.specs.Steps.{asStep}
+use mathlib.Core.Path.{refl}
 use denote.Ref.{now}
-use Rattle.calls.specs.Stream.{withRoom}
+use Rattle.book.proofs.Turning.{put-at}
 use borrow.Author.Needs.{needs}
 use Rattle.book.proofs.put_step.Statement.{statement}
 use Rattle.book.proofs.put_step.Tie as tie
@@ -29,10 +30,8 @@ same-length c = search needs
 returns : tie.Need-returns
 returns c =
     let start = c .before .before .before .before .before in
-    let sent = c .before .before .write-edit-step in (
-      (ap (λ p. start .args .at + p .0) (sent .ensures .0), omega (arith, start .pre .0, start .pre .1, sent .ensures .1)),
-      (ap (λ p. withRoom (now (start .args .out)) (start .args .at) (p .1)) (sent .ensures .0), c .before .out .given .1),
-    )
+    let sent = c .before .before .write-edit-step in
+    put-at (now (start .args .out)) (start .args .at) (answerFrame (Answer.Step (asStep (start .args .step)))) _ _ _ (start .pre .0) (start .pre .1) (sent .ensures) refl (c .before .out .given .1)
 
 pub put-step-spec : {M : Type 1} → statement M
 put-step-spec =

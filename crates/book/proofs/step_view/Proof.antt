@@ -1,4 +1,4 @@
--- `book::step_view` meets its contract: the view's one step.
+-- `book::step_view` meets its contract: the view's step, as it is settled.
 use mathlib.Core.Path.{ap}
 use Rattle.calls.specs.Way.{stepSettled}
 use borrow.Author.Needs.{needs}

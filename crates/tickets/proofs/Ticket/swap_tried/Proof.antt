@@ -1,14 +1,11 @@
--- `tickets::Ticket::swap_tried` meets its contract: each phase names its target, which a well-made ticket has; an empty slot is not well made, and a view is not asked.
+-- `tickets::Ticket::swap_tried` meets its contract: the next target, with the mark and the value of its phase in their places.
 use Prim.Native.Nat.{ℕ, _<_}
-use native.Mathlib.Omega.{arith}
-use mathlib.Core.Path.{sym, ap, subst, _∙_}
-use mathlib.Core.Bool.{false≢true}
-use Rattle.words.specs.Words.{wordsInBook}
-use Rattle.tickets.specs.declared.Phase.the-variants.{NoTicket, Claiming, Putting, GivingBack}
-use Rattle.tickets.specs.Tickets.{isView}
+use mathlib.Core.Path.{_≡_, sym, ap, subst, _∙_}
+use Rattle.words.specs.Words.{mostTargets, wordsInBook, markOf}
+use mathlib.Core.Bool.{cond}
+use Rattle.tickets.specs.Tickets.{targetAt}
 use Rattle.tickets.specs.Steps.{tries}
-use Rattle.tickets.proofs.Made.{made, counts-in}
-use Rattle.tickets.proofs.Settled.{tried-in}
+use Rattle.tickets.proofs.Going.{swapBy, next-in-room, next-word-inside, swap-by-next}
 use borrow.Author.Needs.{needs}
 use Rattle.tickets.proofs.Ticket.swap_tried.Statement.{statement}
 use Rattle.tickets.proofs.Ticket.swap_tried.Tie as tie
@@ -16,131 +13,59 @@ use Rattle.tickets.proofs.Ticket.swap_tried.Tie as tie
 mark-requires : tie.Need-mark-requires
 mark-requires c κs = search needs
 
-enum-told : tie.Need-enum-told
-enum-told c = search needs
+next-requires : tie.Need-next-requires
+next-requires c κs = search needs
 
 target-requires : tie.Need-target-requires
 target-requires c κs =
-    let ticket = c .before .before .before .args .self in
-    let counts = counts-in ticket Claiming (c .enum-told .given .1) (c .before .before .before .pre .0) in
-    let most = made ticket (c .before .before .before .pre .0) .most in
-    omega (arith, most, counts)
+    let start = c .before .before in
+    subst (λ (k : ℕ). k < mostTargets) (sym (c .next .ensures)) (next-in-room (start .args .self) (start .pre .0) (start .pre .1))
+
+is-putting-requires : tie.Need-is-putting-requires
+is-putting-requires c κs = search needs
+
+chosen-requires : tie.Need-chosen-requires
+chosen-requires c κs = search needs
+
+is-claiming-requires : tie.Need-is-claiming-requires
+is-claiming-requires c κs = search needs
+
+chosen-requires-2 : tie.Need-chosen-requires-2
+chosen-requires-2 c κs = search needs
+
+chosen-requires-3 : tie.Need-chosen-requires-3
+chosen-requires-3 c κs = search needs
 
 swap-of-requires : tie.Need-swap-of-requires
 swap-of-requires c κs = search needs
 
-enum-told-2 : tie.Need-enum-told-2
-enum-told-2 c = search needs
-
-target-requires-2 : tie.Need-target-requires-2
-target-requires-2 c κs =
-    let ticket = c .before .before .before .args .self in
-    let counts = counts-in ticket Putting (c .enum-told2 .given .1) (c .before .before .before .pre .0) in
-    let most = made ticket (c .before .before .before .pre .0) .most in
-    omega (arith, most, counts)
-
-swap-of-requires-2 : tie.Need-swap-of-requires-2
-swap-of-requires-2 c κs = search needs
-
-enum-told-3 : tie.Need-enum-told-3
-enum-told-3 c = search needs
-
-target-requires-3 : tie.Need-target-requires-3
-target-requires-3 c κs =
-    let ticket = c .before .before .before .args .self in
-    let counts = counts-in ticket GivingBack (c .enum-told3 .given .1) (c .before .before .before .pre .0) in
-    let most = made ticket (c .before .before .before .pre .0) .most in
-    omega (arith, most, counts .0, counts .1)
-
-swap-of-requires-3 : tie.Need-swap-of-requires-3
-swap-of-requires-3 c κs = search needs
-
-enum-told-4 : tie.Need-enum-told-4
-enum-told-4 c = search needs
-
-swap-of-requires-4 : tie.Need-swap-of-requires-4
-swap-of-requires-4 c κs = search needs
-
-enum-told-5 : tie.Need-enum-told-5
-enum-told-5 c = search needs
-
-swap-of-requires-5 : tie.Need-swap-of-requires-5
-swap-of-requires-5 c κs = search needs
-
-enum-told-6 : tie.Need-enum-told-6
-enum-told-6 c = search needs
-
-swap-of-requires-6 : tie.Need-swap-of-requires-6
-swap-of-requires-6 c κs = search needs
-
 returns : tie.Need-returns
 returns c =
-    let ticket = c .before .before .before .before .before .args .self in
-    let well = c .before .before .before .before .before .pre .0 in
-    let counts = counts-in ticket Claiming (c .before .before .enum-told .given .1) well in
-    let target = c .before .target .ensures in
-    let mark = c .before .before .before .before .mark .ensures in
-    let tried = c .swap-of .ensures ∙ (λ i. tries (target i .word) (target i .quoted) (mark i)) in (
-      λ words. tried ∙ sym (tried-in words ticket _ Claiming (c .before .before .enum-told .given .1)),
-      subst (λ (w : ℕ). w < wordsInBook) (λ i. sym tried i .word) (made ticket well .targets (ticket .claimed) counts .inside),
+    let start = c .before .before .before .before .before .before .before .before .before in
+    let ticket = start .args .self in
+    let next = c .before .before .before .before .before .before .target .ensures ∙ ap (targetAt ticket) (c .before .before .before .before .before .before .before .next .ensures) in
+    let putting = c .before .before .before .before .before .is-putting .ensures in
+    let claiming = c .before .before .before .is-claiming .ensures in
+    let mark = c .before .before .before .before .before .before .before .before .mark .ensures in
+    let value = c .before .before .before .before .chosen .ensures ∙ (λ i. cond (putting i) (next i .new) (next i .quoted)) in
+    let expected = c .before .before .chosen2 .ensures ∙ (λ i. cond (claiming i) (value i) (mark i)) in
+    let desired = c .before .chosen3 .ensures ∙ (λ i. cond (claiming i) (mark i) (value i)) in
+    let is : c .swap-of .result ≡ swapBy ticket (markOf (start .args .team)) = c .swap-of .ensures ∙ (λ i. tries (next i .word) (expected i) (desired i)) in (
+      λ words. is ∙ swap-by-next words ticket (start .args .team) (start .pre .0) (start .pre .1),
+      subst (λ (w : ℕ). w < wordsInBook) (λ i. sym is i .word) (next-word-inside ticket (start .pre .0) (start .pre .1)),
     )
-
-returns-2 : tie.Need-returns-2
-returns-2 c =
-    let ticket = c .before .before .before .before .before .args .self in
-    let well = c .before .before .before .before .before .pre .0 in
-    let counts = counts-in ticket Putting (c .before .before .enum-told2 .given .1) well in
-    let target = c .before .target2 .ensures in
-    let mark = c .before .before .before .before .mark .ensures in
-    let tried = c .swap-of2 .ensures ∙ (λ i. tries (target i .word) (mark i) (target i .new)) in (
-      λ words. tried ∙ sym (tried-in words ticket _ Putting (c .before .before .enum-told2 .given .1)),
-      subst (λ (w : ℕ). w < wordsInBook) (λ i. sym tried i .word) (made ticket well .targets (ticket .done) counts .inside),
-    )
-
-returns-3 : tie.Need-returns-3
-returns-3 c =
-    let ticket = c .before .before .before .before .before .args .self in
-    let well = c .before .before .before .before .before .pre .0 in
-    let counts = counts-in ticket GivingBack (c .before .before .enum-told3 .given .1) well in
-    let target = c .before .target3 .ensures in
-    let mark = c .before .before .before .before .mark .ensures in
-    let tried = c .swap-of3 .ensures ∙ (λ i. tries (target i .word) (mark i) (target i .quoted)) in (
-      λ words. tried ∙ sym (tried-in words ticket _ GivingBack (c .before .before .enum-told3 .given .1)),
-      subst (λ (w : ℕ). w < wordsInBook) (λ i. sym tried i .word) (made ticket well .targets (ticket .done) (omega (arith, counts .0, counts .1)) .inside),
-    )
-
-returns-4 : tie.Need-returns-4
-returns-4 c = absurd (counts-in (c .before .before .before .before .args .self) NoTicket (c .before .enum-told4 .given .1) (c .before .before .before .before .pre .0))
-
-returns-5 : tie.Need-returns-5
-returns-5 c = absurd (false≢true (sym (c .before .before .before .before .pre .1) ∙ ap isView (c .before .enum-told5 .given .1)))
-
-returns-6 : tie.Need-returns-6
-returns-6 c = absurd (false≢true (sym (c .before .before .before .before .pre .1) ∙ ap isView (c .before .enum-told6 .given .1)))
 
 pub swap-tried-spec : {M : Type 1} → statement M
 swap-tried-spec =
     tie.close
     (tie.spec
     mark-requires
-    enum-told
+    next-requires
     target-requires
+    is-putting-requires
+    chosen-requires
+    is-claiming-requires
+    chosen-requires-2
+    chosen-requires-3
     swap-of-requires
-    enum-told-2
-    target-requires-2
-    swap-of-requires-2
-    enum-told-3
-    target-requires-3
-    swap-of-requires-3
-    enum-told-4
-    swap-of-requires-4
-    enum-told-5
-    swap-of-requires-5
-    enum-told-6
-    swap-of-requires-6
-    returns
-    returns-2
-    returns-3
-    returns-4
-    returns-5
-    returns-6)
+    returns)
