@@ -4,11 +4,13 @@ use Prim.Native.Nat.{ℕ, zero, suc, _+_, _-_, _<_, _≤_}
 use mathlib.Core.Path.{_≡_, refl, sym, ap, subst, _∙_}
 use mathlib.Core.Bool.{Bool, true, false}
 use borrow.Author.Tests.{lt-ltb}
+use mathlib.Core.List.{List}
 use lib.ListN.{length, take, drop}
 use Rattle.words.specs.Words.{Words, wordsInBook}
 use Rattle.tickets.specs.declared.Ticket.{Ticket}
 use Rattle.tickets.specs.declared.Tickets.{Tickets}
 use Rattle.tickets.specs.Tickets.{ticketOf, withTicket, hasTicket, isView, wellMade}
+use Rattle.tickets.specs.Going.{isEdit}
 use Rattle.frames.specs.Numbers.{Bytes, areBytes}
 use Rattle.frames.proofs.Bytes.{bytes-after}
 use Rattle.frames.specs.Requests.{partAfterKind, stepKind}
@@ -24,6 +26,7 @@ use Rattle.calls.specs.Stream.{nextAt, NextInside, roomIn, withRoom, PutAt, str
 use Rattle.calls.proofs.WellMadeTables.{bytes-before, with-well-made, settled-well-made}
 use Rattle.calls.proofs.Streaming as streaming
 use Rattle.book.proofs.Going.{slot-below, steps-said, edit-stands}
+use Rattle.book.proofs.Mirrored.{ShowsEdit, ShowsEdits}
 
 -- The frame at a place, as the code cuts it out.
 abbrev pub frameAt : Bytes → ℕ → ℕ → Bytes
@@ -39,15 +42,16 @@ pub record Left (input : Bytes) (all : Streamed × Words × Bytes) (words : Word
   pub enough : length input - at ≤ most
   pub is : streamFrom most words tickets input out at filled ≡ all
 
--- The loop's invariant: what the definition makes of what is left is what it makes of the whole.
-abbrev pub Goes : Bytes → ℕ → Streamed × Words × Bytes → Bool → Words → Bytes → Tickets → ℕ → ℕ → Type 0
-Goes input long all known words out tickets at filled =
+-- The loop's invariant: what the definition makes of what is left is what it makes of the whole; and where all tickets are known to be well made they stay so, and the mirror shows those of edits.
+abbrev pub Goes : Bytes → ℕ → Streamed × Words × Bytes → Bool → Words → Bytes → Tickets → List ℕ → ℕ → ℕ → Type 0
+Goes input long all known words out tickets mirror at filled =
     (length words ≡ wordsInBook)
     × (at ≤ length input)
     × (filled ≤ length out)
     × (length out ≡ long)
     × Left input all words out tickets at filled
     × (known ≡ true → TableWellMade tickets)
+    × (known ≡ true → ShowsEdits mirror tickets)
 
 -- Where no byte is left it has ended.
 pub ended : (most : ℕ) (words : Words) (tickets : Tickets) (input out : Bytes) (at filled : ℕ) → length input ≤ at → streamFrom most words tickets input out at filled ≡ (streamed tickets at filled MoreInput, words, out)
@@ -71,9 +75,10 @@ pub record Turn : Type 0 where
   pub words : Words
   pub out : Bytes
   pub tickets : Tickets
+  pub mirror : List ℕ
   pub at : ℕ
   pub filled : ℕ
-  pub goes : Goes input long all known words out tickets at filled
+  pub goes : Goes input long all known words out tickets mirror at filled
   pub bytes : areBytes input ≡ true
   pub some : at < length input
   pub found : Next
@@ -106,17 +111,23 @@ pub slot-known-made : (turn : Turn) → turn .known ≡ true → SlotWellMade (t
 slot-known-made turn known = turn .goes .5 known (slotIn turn) (slot-below (frameIn turn) (turn .aim) (turn .aimed .1))
 
 -- What is known where an edit's ticket is stepped.
-pub record EditStands (ticket : Ticket) (kind : ℕ) : Type 0 where
+pub record EditStands (known : Bool) (ticket : Ticket) (kind : ℕ) : Type 0 where
+  pub all-known : known ≡ true
+  pub is-edit : isEdit (ticket .phase) ≡ true
   pub stands : hasTicket (ticket .phase) ≡ true
   pub made : wellMade ticket ≡ true
   pub edit : isView (ticket .phase) ≡ false
   pub step : kind ≡ stepKind
 
-pub edit-known : (turn : Turn) (kind : ℕ) → stepsEdit (ticketIn turn) (turn .known) kind ≡ true → EditStands (ticketIn turn) kind
+pub edit-known : (turn : Turn) (kind : ℕ) → stepsEdit (ticketIn turn) (turn .known) kind ≡ true → EditStands (turn .known) (ticketIn turn) kind
 edit-known turn kind steps =
     let (step, known, edit) = steps-said (ticketIn turn) (turn .known) kind steps in
     let (stands, no-view) = edit-stands (ticketIn turn .phase) edit in
-    record { stands = stands; made = slot-known-made turn known stands; edit = no-view; step = step }
+    record { all-known = known; is-edit = edit; stands = stands; made = slot-known-made turn known stands; edit = no-view; step = step }
+
+-- The mirror shows the ticket in its slot, if it is an edit's, where all are known to be well made.
+pub slot-shown : (turn : Turn) → turn .known ≡ true → ShowsEdit (turn .mirror) (slotIn turn) (ticketIn turn)
+slot-shown turn known = turn .goes .6 known (slotIn turn)
 
 -- An answer put, from what was written in the room left.
 pub put-at : (out : Bytes) (at : ℕ) (answer : Bytes) (count : ℕ) (room output : Bytes) → at ≤ length out → longestAnswer ≤ length out - at
@@ -126,13 +137,14 @@ put-at out at answer count room output inside enough (sent, most) is long =
     ((ap (λ p. at + p .0) sent, omega arith), (is ∙ ap (λ p. withRoom out at (p .1)) sent, long))
 
 -- By what the frame settles, stored and written, the loop goes on.
-module _ (turn : Turn) {done : Settled} {after : Words} {next : Tickets} {place : ℕ} {output : Bytes} where
+module _ (turn : Turn) (mirror : List ℕ) {done : Settled} {after : Words} {next : Tickets} {place : ℕ} {output : Bytes} where
   pub turned : _≡_ {A = Settled × Words} (done, after) (settledIn turn)
       → next ≡ withTicket (turn .tickets) (slotIn turn) (done .ticket)
+      → (turn .known ≡ true → ShowsEdits mirror next)
       → length after ≡ wordsInBook
       → PutAt (turn .out) (turn .filled) (answerFrame (done .answer)) place output
-      → Goes (turn .input) (turn .long) (turn .all) (turn .known) after output next (turn .at + turn .size) place
-  turned settles stored whole ((counted, fits), (filled, long)) =
+      → Goes (turn .input) (turn .long) (turn .all) (turn .known) after output next mirror (turn .at + turn .size) place
+  turned settles stored shown whole ((counted, fits), (filled, long)) =
       let frame-is : frameIn turn ≡ take (turn .size) (drop (turn .at) (turn .input)) = ap (λ (k : ℕ). take k (drop (turn .at) (turn .input))) (streaming.add-less (turn .at) (turn .size)) in
       let frame-bytes = bytes-before (turn .at + turn .size - turn .at) (drop (turn .at) (turn .input)) (bytes-after (turn .at) (turn .input) (turn .bytes)) in
       let inside = subst (NextInside (turn .input) (turn .at)) (turn .sized) (turn .found-is .1) in
@@ -156,4 +168,5 @@ module _ (turn : Turn) {done : Settled} {after : Words} {next : Tickets} {place 
             subst TableWellMade (sym stored)
             (with-well-made (turn .tickets) (slotIn turn) (done .ticket) (turn .goes .5 known)
             (subst SlotWellMade (λ i. sym settles i .0 .ticket) (settled-well-made (turn .words) (ticketIn turn) (frameIn turn) (turn .aim) (turn .aimed .1) frame-bytes (slot-known-made turn known)))),
+        shown,
       )

@@ -30,6 +30,7 @@ use frames::Header;
 use frames::Kind;
 use frames::Reading;
 use frames::Refusal;
+use mirror::Mirror;
 use tickets::EditAnswer;
 use tickets::Ticket;
 use tickets::Tickets;
@@ -468,13 +469,15 @@ fn steps_edit(ticket: Ticket, known: bool, kind: u16) -> bool
 
 // The table stays in one local, and one ticket goes through a frame's way. An edit's step and an edit that opens a ticket,
 // as most frames are, have ways of their own, which store the slot where they know how: a ticket that goes on keeps its
-// targets in place. Where all tickets are well made at the start they stay so, and none is tested again.
+// targets in place. The mirror shows the targets of every edit's ticket, so that a step copies none. Where all tickets are well made at the start they stay so, and none is tested again.
 fn answer_frames(book: &mut [u64], mut tickets: Tickets, input: &[u8], out: &mut [u8]) -> Streamed
     requires { ⌜ length (now book) ≡ wordsInBook ⌝ }
     ensures { λ r. ⌜ ((r .consumed ≤ length (now (input .entry))) × (r .written ≤ length (now (out .entry)))) × ((r, now (book .exit), now (out .exit)) ≡ streamFrom (length (now (input .entry))) (now (book .entry)) tickets (now (input .entry)) (now (out .entry)) 0 0) ⌝ }
 {
     let known = all_well_made(tickets);
     let gone = Ticket::none();
+    let mut shown = [0u64; Mirror::SIZE];
+    mirror::show_all(&mut shown, tickets);
     let mut at: usize = 0;
     let mut filled: usize = 0;
     while at < input.len() {
@@ -502,7 +505,8 @@ fn answer_frames(book: &mut [u64], mut tickets: Tickets, input: &[u8], out: &mut
                 let slot = team as usize;
                 let ticket = tickets.slots[slot];
                 if steps_edit(ticket, known, kind) {
-                    let swapped = tickets::swap(book, ticket, team);
+                    let target = mirror::target(&shown, slot, ticket.next());
+                    let swapped = tickets::swap(book, ticket, team, target);
                     if ticket.goes_on(swapped) {
                         let after = ticket.went_on();
                         tickets.slots[slot] = after;
@@ -525,6 +529,7 @@ fn answer_frames(book: &mut [u64], mut tickets: Tickets, input: &[u8], out: &mut
                         EditRead::Is(edit) => {
                             let opened = edits::opened(edit);
                             tickets.slots[slot] = opened;
+                            mirror::show(&mut shown, slot, opened);
                             filled = put_standing(out, filled, opened.n);
                         }
                         EditRead::Refused(number) => {

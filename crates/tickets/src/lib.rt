@@ -392,13 +392,12 @@ impl Ticket {
         chosen_count(self.is_claiming(), self.claimed, self.done)
     }
 
-    // The conditional swap that an edit's next step tries, whatever the words are.
-    pub fn swap_tried(self, team: u16) -> SwapTried
-        requires { ⌜ (wellMade self ≡ true) × (isView (self .phase) ≡ false) × (team < teamCount) ⌝ }
+    // The conditional swap that an edit's next step tries of its next target, whatever the words are.
+    pub fn swap_tried(self, team: u16, next: Target) -> SwapTried
+        requires { ⌜ (wellMade self ≡ true) × (isView (self .phase) ≡ false) × (team < teamCount) × (next ≡ targetAt self (nextOf self)) ⌝ }
         ensures { λ r. ⌜ ((words : Words) → r ≡ swapTried words self team) × (r .word < wordsInBook) ⌝ }
     {
         let mark = words::mark(team);
-        let next = self.target(self.next());
         let value = chosen(self.is_putting(), next.new, next.quoted);
         let claiming = self.is_claiming();
         let expected = chosen(claiming, value, mark);
@@ -767,12 +766,12 @@ impl Tickets {
     }
 }
 
-// The conditional swap of a step of a team's edit: what it finds settles the step.
-pub fn swap(book: &mut [u64], ticket: Ticket, team: u16) -> Swapped
-    requires { ⌜ (length (now book) ≡ wordsInBook) × (wellMade ticket ≡ true) × (isView (ticket .phase) ≡ false) × (team < teamCount) ⌝ }
+// The conditional swap of a step of a team's edit, of its next target: what it finds settles the step.
+pub fn swap(book: &mut [u64], ticket: Ticket, team: u16, next: Target) -> Swapped
+    requires { ⌜ (length (now book) ≡ wordsInBook) × (wellMade ticket ≡ true) × (isView (ticket .phase) ≡ false) × (team < teamCount) × (next ≡ targetAt ticket (nextOf ticket)) ⌝ }
     ensures { λ r. ⌜ (r .expected ≡ swapTried (now (book .entry)) ticket team .expected) × ((settled ticket (r .found), now (book .exit)) ≡ stepOf (now (book .entry)) ticket team) ⌝ }
 {
-    let tried = ticket.swap_tried(team);
+    let tried = ticket.swap_tried(team, next);
     let at = tried.word as usize;
     let found = words::conditional_swap(book, at, tried.expected, tried.desired);
     Swapped {
@@ -787,7 +786,8 @@ pub fn step(book: &mut [u64], ticket: Ticket, team: u16) -> EditAnswer
     ensures step { λ r. ⌜ (stepped (afterAnswer ticket r) (asStep r), now (book .exit)) ≡ stepOf (now (book .entry)) ticket team ⌝ }
     ensures fits { λ r. ⌜ AnswerFits ticket r ⌝ }
 {
-    let swapped = swap(book, ticket, team);
+    let next = ticket.target(ticket.next());
+    let swapped = swap(book, ticket, team, next);
     ticket.answer_to(swapped.found)
 }
 

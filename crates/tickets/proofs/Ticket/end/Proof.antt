@@ -1,4 +1,7 @@
 -- `tickets::Ticket::end` meets its contract: one of three counts, by the phase.
+use Prim.Native.Nat.{_+_}
+use mathlib.Core.Path.{ap, _∙_}
+use mathlib.Core.Bool.{cond}
 use borrow.Author.Needs.{needs}
 use Rattle.tickets.proofs.Ticket.end.Statement.{statement}
 use Rattle.tickets.proofs.Ticket.end.Tie as tie
@@ -19,7 +22,10 @@ chosen-count-requires-2 : tie.Need-chosen-count-requires-2
 chosen-count-requires-2 c κs = search needs
 
 returns : tie.Need-returns
-returns c = cc
+returns c =
+    let ticket = c .before .before .before .before .before .args .self in
+    let end = c .before .before .before .chosen-count .ensures ∙ ap (λ putting. cond putting (ticket .n) (ticket .claimed)) (c .before .before .before .before .is-putting .ensures) in
+    c .chosen-count2 .ensures ∙ (λ i. cond (c .before .before .is-claiming .ensures i) (ticket .n + 1) (end i))
 
 pub end-spec : {M : Type 1} → statement M
 end-spec =

@@ -1,25 +1,16 @@
 -- `tickets::Ticket::swap_tried` meets its contract: the next target, with the mark and the value of its phase in their places.
 use Prim.Native.Nat.{ℕ, _<_}
-use mathlib.Core.Path.{_≡_, sym, ap, subst, _∙_}
-use Rattle.words.specs.Words.{mostTargets, wordsInBook, markOf}
+use mathlib.Core.Path.{_≡_, sym, subst, _∙_}
 use mathlib.Core.Bool.{cond}
-use Rattle.tickets.specs.Tickets.{targetAt}
+use Rattle.words.specs.Words.{wordsInBook, markOf}
 use Rattle.tickets.specs.Steps.{tries}
-use Rattle.tickets.proofs.Going.{swapBy, next-in-room, next-word-inside, swap-by-next}
+use Rattle.tickets.proofs.Going.{swapBy, next-word-inside, swap-by-next}
 use borrow.Author.Needs.{needs}
 use Rattle.tickets.proofs.Ticket.swap_tried.Statement.{statement}
 use Rattle.tickets.proofs.Ticket.swap_tried.Tie as tie
 
 mark-requires : tie.Need-mark-requires
 mark-requires c κs = search needs
-
-next-requires : tie.Need-next-requires
-next-requires c κs = search needs
-
-target-requires : tie.Need-target-requires
-target-requires c κs =
-    let start = c .before .before in
-    subst (λ (k : ℕ). k < mostTargets) (sym (c .next .ensures)) (next-in-room (start .args .self) (start .pre .0) (start .pre .1))
 
 is-putting-requires : tie.Need-is-putting-requires
 is-putting-requires c κs = search needs
@@ -41,12 +32,12 @@ swap-of-requires c κs = search needs
 
 returns : tie.Need-returns
 returns c =
-    let start = c .before .before .before .before .before .before .before .before .before in
+    let start = c .before .before .before .before .before .before .before in
     let ticket = start .args .self in
-    let next = c .before .before .before .before .before .before .target .ensures ∙ ap (targetAt ticket) (c .before .before .before .before .before .before .before .next .ensures) in
+    let next = start .pre .3 in
     let putting = c .before .before .before .before .before .is-putting .ensures in
     let claiming = c .before .before .before .is-claiming .ensures in
-    let mark = c .before .before .before .before .before .before .before .before .mark .ensures in
+    let mark = c .before .before .before .before .before .before .mark .ensures in
     let value = c .before .before .before .before .chosen .ensures ∙ (λ i. cond (putting i) (next i .new) (next i .quoted)) in
     let expected = c .before .before .chosen2 .ensures ∙ (λ i. cond (claiming i) (value i) (mark i)) in
     let desired = c .before .chosen3 .ensures ∙ (λ i. cond (claiming i) (mark i) (value i)) in
@@ -60,8 +51,6 @@ swap-tried-spec =
     tie.close
     (tie.spec
     mark-requires
-    next-requires
-    target-requires
     is-putting-requires
     chosen-requires
     is-claiming-requires
