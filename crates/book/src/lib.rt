@@ -469,7 +469,8 @@ fn steps_edit(ticket: Ticket, known: bool, kind: u16) -> bool
 
 // The table stays in one local, and one ticket goes through a frame's way. An edit's step and an edit that opens a ticket,
 // as most frames are, have ways of their own, which store the slot where they know how: a ticket that goes on keeps its
-// targets in place. The mirror shows the targets of every edit's ticket, so that a step copies none. Where all tickets are well made at the start they stay so, and none is tested again.
+// targets in place. The mirror shows the targets of every edit's ticket, so that a step copies none. Where all tickets
+// are well made at the start they stay so, and none is tested again.
 fn answer_frames(book: &mut [u64], mut tickets: Tickets, input: &[u8], out: &mut [u8]) -> Streamed
     requires { ⌜ length (now book) ≡ wordsInBook ⌝ }
     ensures { λ r. ⌜ ((r .consumed ≤ length (now (input .entry))) × (r .written ≤ length (now (out .entry)))) × ((r, now (book .exit), now (out .exit)) ≡ streamFrom (length (now (input .entry))) (now (book .entry)) tickets (now (input .entry)) (now (out .entry)) 0 0) ⌝ }
