@@ -16,7 +16,7 @@ use Rattle.frames.specs.declared.Header.the-variants as Header
 use Rattle.frames.specs.Request.{Open, Step, Look, View}
 use Rattle.frames.specs.Numbers.{Bytes, number16}
 use Rattle.frames.specs.Requests.{lengthField, kindField, headBytes, partAfterKind, addKind, correctKind, strikeKind, moveKind, stepKind, lookKind, viewKind, lengthOfKind, lengthOfView, lengthFits, teamIn, viewWordsIn, editOfKind, requestOfKind}
-use Rattle.frames.specs.Fields.{longestFrame, frameTorn, kindUnknown, lengthWrong, headerOf, StepHead, ViewFields, FieldsOf, Whole}
+use Rattle.frames.specs.Fields.{longestFrame, frameTorn, kindUnknown, lengthWrong, headerOf, isStep, ViewFields, FieldsOf, Whole}
 use Rattle.frames.proofs.Ranges.{first-of, next-of, none-of, within-in, within-below, within-above}
 
 -- 3: too short, too long, or another count than the length field says.
@@ -124,17 +124,21 @@ whole frame length-field kind first last head e fits = record {
 }
 
 -- A step's frame is whole, and its kind is a step's.
-step-length : lengthFits stepKind 4 ≡ true
+step-length : lengthFits stepKind (lengthOfKind stepKind) ≡ true
 unfolding lengthFits
 step-length = refl
 
-pub step-header : (frame : Bytes) → StepHead frame → (Header.Kind stepKind ≡ headerOf frame) × Whole frame stepKind
+pub step-header : (frame : Bytes) → isStep frame ≡ true → (Header.Kind stepKind ≡ headerOf frame) × Whole frame stepKind
 step-header frame step =
-    let counted : lengthField frame + 2 ≡ length frame = omega (arith, step .bytes, step .length-field) in
-    let least : headBytes ≤ length frame = omega (arith, step .bytes) in
-    let fits : lengthFits (kindField frame) (lengthField frame) ≡ true = (λ i. lengthFits (step .kind-field i) (step .length-field i)) ∙ step-length in (
-      ap Header.Kind (sym (step .kind-field)) ∙ header-kind frame (not-torn frame least (omega (arith, step .bytes)) counted) (kind-known frame (omega (arith, step .kind-field)) (omega (arith, step .kind-field))) (length-due frame fits),
-      whole frame (lengthField frame) stepKind (omega arith) (omega arith) least counted (ap (λ (kind : ℕ). lengthFits kind (lengthField frame)) (sym (step .kind-field)) ∙ fits),
+    let (bytes, (long, (kind, u))) = split (eqb (length frame) (lengthOfKind stepKind + 2) ∷ eqb (lengthField frame) (lengthOfKind stepKind) ∷ eqb (kindField frame) stepKind ∷ []) step in
+    let bytes : length frame ≡ 6 = eqb-true _ _ bytes in
+    let long : lengthField frame ≡ 4 = eqb-true _ _ long in
+    let kind : kindField frame ≡ stepKind = eqb-true _ _ kind in
+    let counted : lengthField frame + 2 ≡ length frame = omega (arith, bytes, long) in
+    let least : headBytes ≤ length frame = omega (arith, bytes) in
+    let fits : lengthFits (kindField frame) (lengthField frame) ≡ true = (λ i. lengthFits (kind i) (long i)) ∙ step-length in (
+      ap Header.Kind (sym kind) ∙ header-kind frame (not-torn frame least (omega (arith, bytes)) counted) (kind-known frame (omega (arith, kind)) (omega (arith, kind))) (length-due frame fits),
+      whole frame (lengthField frame) stepKind (omega arith) (omega arith) least counted (ap (λ (kind : ℕ). lengthFits kind (lengthField frame)) (sym kind) ∙ fits),
     )
 
 -- The fields of a whole frame: those of a view, and those of any other kind.

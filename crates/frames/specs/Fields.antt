@@ -51,11 +51,14 @@ kindUnknown frame = not (within addKind viewKind (kindField frame))
 abbrev pub lengthWrong : Bytes → Bool
 lengthWrong frame = not (lengthFits (kindField frame) (lengthField frame))
 
--- A frame of six bytes whose length and kind are a step's.
-pub record StepHead (frame : Bytes) : Type 0 where
-  pub bytes : length frame ≡ 6
-  pub length-field : lengthField frame ≡ 4
-  pub kind-field : kindField frame ≡ stepKind
+-- A step's frame: its length and its kind are a step's, and it has as many bytes as they say.
+abbrev pub isStep : Bytes → Bool
+isStep frame =
+    allHold
+    (eqb (length frame) (lengthOfKind stepKind + 2)
+    ∷ eqb (lengthField frame) (lengthOfKind stepKind)
+    ∷ eqb (kindField frame) stepKind
+    ∷ [])
 
 -- The first of these three that applies, or else the kind.
 unfoldable pub headerOf : Bytes → Header

@@ -1,10 +1,9 @@
 // A frame's length and kind, and the part after the kind.
 ghost use mathlib.Core.Path.{_≡_};
-ghost use mathlib.Core.Bool.{true};
 ghost use Prim.Native.Nat.{_≤_};
 ghost use lib.ListN.{length};
 ghost use Rattle.frames.specs.Requests.{headBytes, partAfterKind, lengthOfKind, lengthFits};
-ghost use Rattle.frames.specs.Fields.{headerOf, WholeIfKnown, StepHead};
+ghost use Rattle.frames.specs.Fields.{headerOf, WholeIfKnown, isStep};
 use crate::Frame;
 use crate::Header;
 use crate::Kind;
@@ -58,7 +57,7 @@ fn length_fits(kind: u16, length: u16) -> bool
 
 // Whether a frame is a step's, told by its length and its kind at once: most frames are.
 fn is_step(frame: &[u8]) -> bool
-    ensures { λ r. ⌜ (r ≡ true → StepHead (now (frame .entry))) ⌝ }
+    ensures { λ r. ⌜ r ≡ isStep (now (frame .entry)) ⌝ }
 {
     if frame.len() != Frame::STEP {
         return false;

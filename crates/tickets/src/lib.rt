@@ -5,7 +5,7 @@ ghost use Prim.Native.Nat.{ℕ, _+_, _≤_, _<_};
 ghost use lib.ListN.{length};
 ghost use lib.Dec.{eqb};
 ghost use Rattle.words.specs.Tests.{occurs, allOccur};
-ghost use Rattle.words.specs.Words.{Words, wordsInBook, teamCount, mostTargets};
+ghost use Rattle.words.specs.Words.{Words, wordsInBook, teamCount, mostTargets, readOf};
 ghost use Rattle.tickets.specs.declared.Phase.the-variants.{Claiming, Putting, Viewing, Viewed};
 ghost use Rattle.tickets.specs.Tickets.{noTicket, freshTickets, targetAt, targetsIn, wordsIn, namedIn, hasTicket, isView, targetWellMade, countsWellMade, viewWellMade, wellMade};
 ghost use Rattle.tickets.specs.Steps.{tries, oneMoreTry, advanced, swapTried, stepped, claimed, put, givenBack, settledIn, settled, noting, viewClaimed, valueNoted, valueNamed, valuesSeen, viewGivenBack, asStep, finishes, afterAnswer, AnswerFits, stepOf, lookOf};
@@ -769,7 +769,7 @@ impl Tickets {
 // The conditional swap of a step of a team's edit, of its next target: what it finds settles the step.
 pub fn swap(book: &mut [u64], ticket: Ticket, team: u16, next: Target) -> Swapped
     requires { ⌜ (length (now book) ≡ wordsInBook) × (wellMade ticket ≡ true) × (isView (ticket .phase) ≡ false) × (team < teamCount) × (next ≡ targetAt ticket (nextOf ticket)) ⌝ }
-    ensures { λ r. ⌜ (r .expected ≡ swapTried (now (book .entry)) ticket team .expected) × ((settled ticket (r .found), now (book .exit)) ≡ stepOf (now (book .entry)) ticket team) ⌝ }
+    ensures { λ r. ⌜ (r .expected ≡ swapTried (now (book .entry)) ticket team .expected) × ((settled ticket (r .found), now (book .exit)) ≡ stepOf (now (book .entry)) ticket team) × (r .found ≡ readOf (now (book .entry)) (swapTried (now (book .entry)) ticket team .word)) ⌝ }
 {
     let tried = ticket.swap_tried(team, next);
     let at = tried.word as usize;

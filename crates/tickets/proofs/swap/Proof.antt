@@ -1,6 +1,7 @@
 -- `tickets::swap` meets its contract: the swap that the ticket tries, once.
 use denote.Ref.{now}
-use mathlib.Core.Path.{refl, ap}
+use mathlib.Core.Path.{refl, ap, _∙_}
+use Rattle.words.specs.Words.{readOf}
 use Rattle.tickets.specs.declared.SwapTried.{SwapTried}
 use Rattle.tickets.proofs.Settled.{step-by}
 use borrow.Author.Needs.{needs}
@@ -27,6 +28,7 @@ returns c =
     let is = tried .ensures .0 (now (start .args .book)) in (
       ap (λ (swap : SwapTried). swap .expected) is,
       step-by (now (start .args .book)) (start .args .ticket) (start .args .team) (tried .result) (swapped .result) (swapped .last .0) _ is (swapped .ensures .0) (swapped .ensures .1) refl,
+      swapped .ensures .0 ∙ ap (λ (swap : SwapTried). readOf (now (start .args .book)) (swap .word)) is,
     )
 
 pub swap-spec : {M : Type 1} → statement M

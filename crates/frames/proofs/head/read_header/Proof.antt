@@ -14,7 +14,7 @@ is-step-requires c κs = search needs
 returns : tie.Need-returns
 returns c =
     let frame = now (c .before .before .before .args .frame) in
-    step-header frame (c .before .is-step .ensures (c .if1 .taken))
+    step-header frame (sym (c .before .is-step .ensures) ∙ c .if1 .taken)
 
 returns-2 : tie.Need-returns-2
 returns-2 c = let frame = now (c .before .before .before .before .args .frame) in
