@@ -9,13 +9,14 @@ use crate::demand3::{Leg, Plain};
 use crate::layout::*;
 use crate::rounds::Order;
 use crate::streams::{Author, Prng};
+use crate::wrong::{self, Fault};
 use std::collections::{BTreeMap, BTreeSet};
 
 /// "a lent scratch of 1,344 bytes"
 const SCRATCH: i64 = LEGS;
 
 /// The plain book that words tell by their links, if they tell one at all.
-fn told(book: &[Word]) -> Option<Plain> {
+fn told(book: &[Word], fault: Option<Fault>) -> Option<Plain> {
     let value = |word: i64| match book[word as usize] {
         Word::Value(value) => Some(value),
         Word::Marked(_) => None,
@@ -28,7 +29,8 @@ fn told(book: &[Word]) -> Option<Plain> {
                 return None;
             }
             let (place, measure) = (value(place_word(number))?, value(measure_word(number))?);
-            let Reading { from, to, measure, .. } = reading(place as u64, measure as u64)?;
+            let leg = wrong::read(fault, place as u64, measure as u64)?;
+            let Reading { from, to, measure, .. } = leg;
             plain.lists[p as usize].push(Leg { number, from, to, measure });
             number = value(link_word(number))?;
         }
@@ -38,8 +40,9 @@ fn told(book: &[Word]) -> Option<Plain> {
 
 /// "yes exactly when the words are those of some plain book": the one that they
 /// tell has no number twice, and its words are these.
-pub fn sound(book: &[Word]) -> bool {
-    let Some(plain) = told(book) else { return false };
+pub fn sound(book: &[Word], fault: Option<Fault>) -> bool {
+    let book = &wrong::book(fault, book)[..];
+    let Some(plain) = told(book, fault) else { return false };
     let legs: Vec<&Leg> = plain.lists.iter().flatten().collect();
     let numbers: BTreeSet<i64> = legs.iter().map(|leg| leg.number).collect();
     numbers.len() == legs.len()
@@ -48,11 +51,11 @@ pub fn sound(book: &[Word]) -> bool {
 }
 
 /// "Checks: 12, scratch too short, after 1."
-fn answer(book: &[Word], scratch: i64) -> &'static str {
+fn answer(book: &[Word], scratch: i64, fault: Option<Fault>) -> &'static str {
     match (book.len() as i64, scratch) {
         (length, _) if length != WORDS => "refused 1",
         (_, bytes) if bytes < SCRATCH => "refused 12",
-        _ if sound(book) => "yes",
+        _ if sound(book, fault) => "yes",
         _ => "no",
     }
 }
@@ -83,8 +86,8 @@ impl Case {
     }
 }
 
-/// The model's line for each case of an input.
-pub fn answered(input: &[u8]) -> Result<String, String> {
+/// The line for each case of an input, from the model or a program with a fault.
+pub fn answered(input: &[u8], fault: Option<Fault>) -> Result<String, String> {
     let (mut rest, mut lines) = (input, String::new());
     let mut take = |count: usize| -> Result<u64, String> {
         let (number, after) = rest.split_at_checked(count).ok_or("a torn case")?;
@@ -100,7 +103,7 @@ pub fn answered(input: &[u8]) -> Result<String, String> {
                 *place = Word::of_bits(value);
             }
         }
-        lines += answer(&book, scratch as i64);
+        lines += answer(&book, scratch as i64, fault);
         lines += "\n";
     }
     Ok(lines)
@@ -180,9 +183,23 @@ fn faults() -> Vec<Case> {
         with(&two, &[(measure_word(7), 1)]),
         with(&two, &[(place_word(7), place(4, 65_535, 0) as u64)]),
     ]);
+    cases.extend(shafts(&two));
     let all: Vec<i64> = (1..=LEGS).rev().collect();
     cases.push(Case::of(chain(0, &all)));
     cases.push(with(&chain(0, &all), &[(link_word(1), LEGS as u64)]));
+    cases
+}
+
+/// "a plumb leg with another compass reads as no leg, and the book check says no to
+/// it": up, down and just not plumb, as the newest leg and as the oldest.
+fn shafts(words: &Words) -> Vec<Case> {
+    let mut cases = Vec::new();
+    for clino in [-9_000, -8_999, 8_999, 9_000] {
+        for compass in [0, 1, 500, 18_000, 35_999] {
+            let shaft = Measure { distance: 5_000, compass, clino }.written() as u64;
+            cases.extend([7, 21].map(|leg| with(words, &[(measure_word(leg), shaft)])));
+        }
+    }
     cases
 }
 
@@ -242,7 +259,7 @@ mod tests {
             let mut author = Author::new(seed);
             author.contend(400);
             author.finish_all(Order::Rising);
-            assert!(sound(author.book()), "seed {seed}");
+            assert!(sound(author.book(), None), "seed {seed}");
         }
     }
 
@@ -253,6 +270,6 @@ mod tests {
         author.finish_all(Order::Rising);
         let mut book = author.book().to_vec();
         book[77] = Word::Marked(2);
-        assert!(!sound(&book));
+        assert!(!sound(&book, None));
     }
 }

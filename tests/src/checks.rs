@@ -1,5 +1,6 @@
 //! Unit tests of the model, of demand 3's check and of the streams.
 
+use crate::books;
 use crate::demand3::{check, sweep, Plain};
 use crate::frames::{framed, split, Answer, Field::*, Kind, Request};
 use crate::layout::*;
@@ -237,6 +238,113 @@ fn an_output_of_52_bytes_is_enough() {
     assert_eq!(desk.call(&step, &mut [0; 52]), 52);
 }
 
+/// The first Add as a leg at some clino, by some compass.
+fn steep_add(compass: i64, clino: i64) -> Request {
+    let mut add = first_add(0);
+    set(&mut add, &[(Compass, compass), (Clino, clino)]);
+    add
+}
+
+/// An edit of that leg with old and new figures at its clino.
+fn steep_edit(kind: Kind, old: i64, new: i64, clino: i64) -> Request {
+    let leg = [(Team, 1), (R, 1), (C, 1), (From, 1), (To, 2), (Distance, 5_000)];
+    let mut edit = Request::new(kind, &leg);
+    set(&mut edit, &[(Compass, old), (Clino, clino)]);
+    set(&mut edit, &[(NewDistance, 5_000), (NewCompass, new), (NewClino, clino)]);
+    edit
+}
+
+/// "Two members wrote 0 and 18,000 for one shaft, and a correction came back stale."
+#[test]
+fn one_shaft_by_any_compass() {
+    for (clino, word) in [(9_000, 154_618_822_661_000), (-9_000, 5_000)] {
+        for (written, quoted) in [(0, 18_000), (18_000, 0), (18_000, 35_999), (35_999, 1)] {
+            let mut desk = Desk::fresh();
+            assert_eq!(settled(&mut desk, steep_add(written, clino)), Answer::Granted(10));
+            assert_eq!(asked(&mut desk, Request::look(66)), Answer::Value(word));
+            let correct = steep_edit(Kind::Correct, quoted, written, clino);
+            assert_eq!(settled(&mut desk, correct), Answer::Granted(4));
+            assert_eq!(asked(&mut desk, Request::look(66)), Answer::Value(word));
+            let strike = steep_edit(Kind::Strike, quoted, 0, clino);
+            assert_eq!(settled(&mut desk, strike), Answer::Granted(10));
+            assert_eq!(desk, Desk::fresh());
+        }
+    }
+}
+
+#[test]
+fn a_leg_just_not_plumb_keeps_its_compass() {
+    for clino in [8_999, -8_999] {
+        let mut desk = Desk::fresh();
+        settled(&mut desk, steep_add(18_000, clino));
+        let wrong = steep_edit(Kind::Correct, 0, 0, clino);
+        assert_eq!(settled(&mut desk, wrong), Answer::Stale(66, 3));
+        let wrong = steep_edit(Kind::Strike, 35_999, 0, clino);
+        assert_eq!(settled(&mut desk, wrong), Answer::Stale(66, 9));
+        let right = steep_edit(Kind::Correct, 18_000, 5, clino);
+        assert_eq!(settled(&mut desk, right), Answer::Granted(4));
+        assert!(
+            matches!(asked(&mut desk, Request::look(66)), Answer::Value(bits) if bits >> 17 & 0xFFFF == 5)
+        );
+    }
+}
+
+/// "though its field must still be in range"
+#[test]
+fn a_plumb_compass_out_of_range_is_refused() {
+    for clino in [9_000, -9_000] {
+        let asked = |edit: Request| asked(&mut Desk::fresh(), edit);
+        for compass in [36_000, 65_535] {
+            assert_eq!(asked(steep_add(compass, clino)), Answer::Refused(10));
+            for (old, new) in [(compass, 0), (0, compass)] {
+                let correct = steep_edit(Kind::Correct, old, new, clino);
+                assert_eq!(asked(correct), Answer::Refused(10));
+            }
+            assert_eq!(asked(steep_edit(Kind::Strike, compass, 0, clino)), Answer::Refused(10));
+        }
+        assert_eq!(asked(steep_add(35_999, clino)), Answer::Standing(5));
+    }
+}
+
+#[test]
+fn plumb_legs_read_with_compass_0_alone() {
+    for clino in [9_000, -9_000] {
+        let measure = |compass| Measure { distance: 5_000, compass, clino };
+        let read = |compass| reading(8_388_673, measure(compass).written() as u64);
+        assert_eq!(read(0).map(|leg| leg.measure), Some(measure(0)));
+        for compass in [1, 500, 18_000, 35_999, 36_000] {
+            assert_eq!(read(compass), None, "{compass} at {clino}");
+        }
+    }
+}
+
+/// "and the plain book alike": its own words, and its own success.
+#[test]
+fn the_plain_book_takes_a_plumb_compass_as_0() {
+    let mut plain = Plain::fresh();
+    assert!(plain.play(&steep_add(18_000, 9_000)));
+    assert_eq!(plain.word(66), 154_618_822_661_000);
+    assert!(plain.play(&steep_edit(Kind::Correct, 35_999, 7, 9_000)));
+    assert_eq!(plain.word(66), 154_618_822_661_000);
+    assert!(plain.list(0)[0].sound());
+    plain.lists[0][0].measure.compass = 500;
+    assert!(!plain.list(0)[0].sound());
+}
+
+/// No stream reads a leg or checks a book: the lent text and the stored books do.
+#[test]
+fn other_readers_of_plumb_legs_are_told_by_readings_and_books() {
+    let stored = books::stored();
+    let right = books::answered(&stored, None).unwrap();
+    for fault in [Fault::PlumbReads, Fault::PlumbUnread] {
+        let told = lent::told(LENT[0], Some(fault)).unwrap();
+        assert!(lent::check(&told).is_err(), "{fault:?}");
+        assert_ne!(books::answered(&stored, Some(fault)).unwrap(), right, "{fault:?}");
+        let input = streams::plumb(5, 2_000);
+        assert_eq!(answers(fault, &input), survey(&input));
+    }
+}
+
 /// Two passages with a leg each, two tickets that move them across.
 pub fn opposite_moves(p: i64, q: i64) -> Vec<u8> {
     let mut frames = Vec::new();
@@ -366,7 +474,10 @@ fn demand_three_tells_wrong_programs_apart() {
         // A Strike of f = r only waits, for itself. "A step that says Waiting while
         // the word is free: only demand 2's step rule stops it, as demand 3 holds for
         // it", but it names a holder that the word hasn't.
-        let kept = [Fault::StrikesItself, Fault::Late, Fault::SixteenNamed].contains(&fault);
+        // Refusals are passed over, and no list of calls reads a leg.
+        let kept = [Fault::StrikesItself, Fault::Late, Fault::SixteenNamed].contains(&fault)
+            || [Fault::PlumbRangeSkipped, Fault::PlumbRefused].contains(&fault)
+            || [Fault::PlumbReads, Fault::PlumbUnread].contains(&fault);
         assert_eq!(noticed, !kept, "{name}");
     }
 }
@@ -395,9 +506,8 @@ fn the_lent_cases_are_as_stored() {
 /// No stream has such a mark, but both edits and views are lent one.
 #[test]
 fn a_mark_of_sixteen_is_told_by_lent_calls() {
-    let wrong = |desk: &mut Desk, frame: &[u8]| wrong::answer(Fault::SixteenNamed, desk, frame);
     for text in LENT {
-        let told = lent::told(text, &wrong).unwrap();
+        let told = lent::told(text, Some(Fault::SixteenNamed)).unwrap();
         let sixteen =
             told.lines().filter(|line| line.starts_with("= output 06 00 82 00 07 00 10 00"));
         assert_eq!(sixteen.count(), 1);
@@ -457,6 +567,33 @@ fn the_stored_stream_reaches_everything() {
     let mut tally = Tally::default();
     tally.add(&input, &survey(&input));
     tally.complete(true).unwrap();
+}
+
+/// The stored files alone tell every fault that a stream can tell, but late answers.
+#[test]
+fn the_stored_stream_tells_wrong_programs_apart() {
+    let input = streams::stored();
+    let right = survey(&input);
+    for (name, fault) in FAULTS {
+        let same = [Fault::Late, Fault::SixteenNamed, Fault::PlumbReads, Fault::PlumbUnread];
+        assert_eq!(answers(fault, &input) == right, same.contains(&fault), "{name}");
+    }
+}
+
+/// Moves between passages whose ranks rise as their numbers fall: by word number the
+/// first claim is another word.
+#[test]
+fn the_stored_stream_has_crossing_moves() {
+    let input = streams::stored();
+    let moves = |(p, q): (i64, i64)| {
+        let opened = split(&input).into_iter().filter_map(|frame| crate::frames::parse(frame).ok());
+        let mut opened = opened.filter(|edit| edit.kind == Kind::Move);
+        opened.any(|edit| (edit.get(P), edit.get(Q)) == (p, q))
+    };
+    for (p, q) in [(0, 25), (12, 31)] {
+        assert!(p < q && RANKS[p as usize] > RANKS[q as usize]);
+        assert!(moves((p, q)) && moves((q, p)), "passages {p} and {q}");
+    }
 }
 
 #[test]

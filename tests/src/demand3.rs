@@ -15,13 +15,22 @@ pub struct Leg {
     pub measure: Measure,
 }
 
+/// The figures that the plain book goes by: "A plumb leg's compass is taken as 0 in
+/// edits, quoted figures and the plain book alike".
+fn figures(sent: Measure) -> Measure {
+    match sent.clino {
+        -9_000 | 9_000 => Measure { compass: 0, ..sent },
+        _ => sent,
+    }
+}
+
 impl Leg {
     fn quoted(edit: &Request) -> Leg {
         let [number, from, to] = [R, From, To].map(|field| edit.get(field));
-        Leg { number, from, to, measure: edit.measure() }
+        Leg { number, from, to, measure: figures(edit.measure()) }
     }
 
-    /// "all in range, from other than to"
+    /// "all in range, from other than to", and a plumb leg's compass 0.
     pub fn sound(&self) -> bool {
         let stations = 0..65_536;
         (1..=LEGS).contains(&self.number)
@@ -29,6 +38,7 @@ impl Leg {
             && stations.contains(&self.to)
             && self.from != self.to
             && self.measure.in_range()
+            && self.measure == figures(self.measure)
     }
 
     fn same_stations(&self, other: &Leg) -> bool {
@@ -106,7 +116,7 @@ impl Plain {
                 // "r is in p with the quoted figures; it takes the new distance,
                 // compass and clino"
                 let index = self.list(p).iter().position(|leg| *leg == quoted)?;
-                self.lists[p as usize][index].measure = edit.new_measure();
+                self.lists[p as usize][index].measure = figures(edit.new_measure());
             }
             Kind::Strike => {
                 // "p has c legs, r with the quoted figures, f just newer and s just

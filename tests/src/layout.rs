@@ -102,6 +102,16 @@ impl Measure {
             && (-9_000..=9_000).contains(&self.clino)
     }
 
+    /// "a leg at clino 9,000 or -9,000 has no compass reading"
+    pub fn plumb(self) -> bool {
+        self.clino.abs() == 9_000
+    }
+
+    /// "A plumb leg's compass is taken as 0".
+    pub fn taken(self) -> Measure {
+        Measure { compass: if self.plumb() { 0 } else { self.compass }, ..self }
+    }
+
     /// "measure = distance + 2^17 x compass + 2^33 x (clino + 9,000)".
     pub fn written(self) -> i64 {
         self.distance + (1 << 17) * self.compass + (1 << 33) * (self.clino + 9_000)
@@ -123,7 +133,8 @@ pub struct Reading {
 }
 
 /// "Reading is a call on place and measure: it gives the leg if one in range,
-/// from other than to, is written as those two words, and 'no leg' if not."
+/// from other than to, is written as those two words, and 'no leg' if not." With
+/// "Plumb legs": "a plumb leg with another compass reads as no leg".
 pub fn reading(place_bits: u64, measure_bits: u64) -> Option<Reading> {
     let (at, of) = (i64::try_from(place_bits).ok()?, i64::try_from(measure_bits).ok()?);
     let measure = Measure {
@@ -133,6 +144,6 @@ pub fn reading(place_bits: u64, measure_bits: u64) -> Option<Reading> {
     };
     let leg = Reading { p: at % 64 - 1, from: at / 64 % 65_536, to: at / 4_194_304, measure };
     let in_range = (0..PASSAGES).contains(&leg.p) && leg.to <= 65_535 && measure.in_range();
-    let as_written = place(leg.p, leg.from, leg.to) == at && measure.written() == of;
+    let as_written = place(leg.p, leg.from, leg.to) == at && measure.taken().written() == of;
     (in_range && as_written && leg.from != leg.to).then_some(leg)
 }

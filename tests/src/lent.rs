@@ -14,9 +14,10 @@
 //! and those behind them that are not three zeros, so a text names no other.
 
 use crate::frames::hex;
-use crate::layout::{reading, Word};
-use crate::model::{Answering, Desk, Phase, Target, Ticket};
+use crate::layout::Word;
+use crate::model::{Desk, Phase, Target, Ticket};
 use crate::streams::of_hex;
+use crate::wrong::{self, Fault};
 
 const PHASES: [(&str, Phase); 5] = [
     ("claiming", Phase::Claiming),
@@ -60,10 +61,17 @@ fn ticket_line(team: i64, ticket: Option<&Ticket>) -> String {
     format!("= ticket {team} {phase} {n} {claimed} {done} {tries}{}", targets.collect::<String>())
 }
 
+/// The fault of the program that is asked, if it has one.
+type Wrong = Option<Fault>;
+
 /// What a call gives, line by line.
-fn call(desk: &mut Desk, answering: Answering, mut output: Vec<u8>, frame: &[u8]) -> Vec<String> {
+fn call(desk: &mut Desk, fault: Wrong, mut output: Vec<u8>, frame: &[u8]) -> Vec<String> {
     let before = desk.clone();
-    let returned = desk.call_answered(answering, frame, &mut output);
+    let answering = |desk: &mut Desk, frame: &[u8]| match fault {
+        None => desk.answer(frame),
+        Some(fault) => wrong::answer(fault, desk, frame),
+    };
+    let returned = desk.call_answered(&answering, frame, &mut output);
     let shown = format!("= output {}", hex(&output));
     let mut lines = vec![format!("= returns {returned}"), shown.trim_end().to_string()];
     for (word, (old, new)) in before.book.iter().zip(&desk.book).enumerate() {
@@ -79,9 +87,9 @@ fn call(desk: &mut Desk, answering: Answering, mut output: Vec<u8>, frame: &[u8]
     lines
 }
 
-fn read(text: &str) -> Result<Vec<String>, String> {
+fn read(fault: Wrong, text: &str) -> Result<Vec<String>, String> {
     let [place, measure] = numbers(text)?[..] else { return Err(format!("read: {text}")) };
-    let line = reading(place, measure).map_or("= no leg".to_string(), |leg| {
+    let line = wrong::read(fault, place, measure).map_or("= no leg".to_string(), |leg| {
         let of = leg.measure;
         let stations = format!("{} {} {}", leg.p, leg.from, leg.to);
         format!("= leg {stations} {} {} {}", of.distance, of.compass, of.clino)
@@ -89,7 +97,7 @@ fn read(text: &str) -> Result<Vec<String>, String> {
     Ok(vec![line])
 }
 
-fn obey(desk: &mut Desk, answering: Answering, line: &str) -> Result<Vec<String>, String> {
+fn obey(desk: &mut Desk, fault: Wrong, line: &str) -> Result<Vec<String>, String> {
     let (verb, rest) = line.split_once(' ').unwrap_or((line, ""));
     match verb {
         "fresh" => *desk = Desk::fresh(),
@@ -106,9 +114,9 @@ fn obey(desk: &mut Desk, answering: Answering, line: &str) -> Result<Vec<String>
             let (lengths, frame) = rest.split_once(" :").ok_or("no frame")?;
             let [length, fill] = numbers(lengths)?[..] else { return Err(rest.to_string()) };
             let output = vec![fill as u8; length as usize];
-            return Ok(call(desk, answering, output, &of_hex(frame)));
+            return Ok(call(desk, fault, output, &of_hex(frame)));
         }
-        "read" => return read(rest),
+        "read" => return read(fault, rest),
         _ if line.is_empty() || line.starts_with('#') => {}
         _ => return Err(format!("no such line: {line}")),
     }
@@ -116,19 +124,19 @@ fn obey(desk: &mut Desk, answering: Answering, line: &str) -> Result<Vec<String>
 }
 
 /// The text with what a program gives, in place of its lines that begin with `=`.
-pub fn told(text: &str, answering: Answering) -> Result<String, String> {
+pub fn told(text: &str, fault: Wrong) -> Result<String, String> {
     let mut desk = Desk::fresh();
     let mut lines: Vec<String> = Vec::new();
     for line in text.lines().filter(|line| !line.starts_with('=')) {
         lines.push(line.to_string());
-        lines.extend(obey(&mut desk, answering, line)?);
+        lines.extend(obey(&mut desk, fault, line)?);
     }
     Ok(lines.join("\n"))
 }
 
 /// Complains of the first line that the model has otherwise.
 pub fn check(text: &str) -> Result<String, String> {
-    let told = told(text, &Desk::answer)?;
+    let told = told(text, None)?;
     let (mut ours, mut theirs) = (told.lines(), text.lines());
     for number in 1.. {
         match (ours.next(), theirs.next()) {

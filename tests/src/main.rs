@@ -53,7 +53,7 @@ fn run(words: &[&str]) -> Result<String, String> {
         ["whole-case", path] => whole_case(path),
         ["stored", dir] => store(Path::new(dir)),
         ["stored", dir, "--check"] => check_stored(Path::new(dir)),
-        ["lent", file] => lent::told(&read_text(file)?, &model::Desk::answer),
+        ["lent", file] => lent::told(&read_text(file)?, None),
         ["lent", file, "--check"] => lent::check(&read_text(file)?),
         ["books", dir] => store_books(Path::new(dir)),
         ["books", dir, "--check"] => check_books(Path::new(dir)),
@@ -130,7 +130,7 @@ fn store_books(dir: &Path) -> Result<String, String> {
     let input = books::stored();
     let failed = |error: std::io::Error| error.to_string();
     fs::create_dir_all(dir).map_err(failed)?;
-    fs::write(dir.join("stdout"), books::answered(&input)?).map_err(failed)?;
+    fs::write(dir.join("stdout"), books::answered(&input, None)?).map_err(failed)?;
     fs::write(dir.join("stdin"), &input).map_err(failed)?;
     check_books(dir)
 }
@@ -139,7 +139,7 @@ fn store_books(dir: &Path) -> Result<String, String> {
 fn check_books(dir: &Path) -> Result<String, String> {
     let input = fs::read(dir.join("stdin")).map_err(|error| format!("stdin: {error}"))?;
     let output = read_text(&dir.join("stdout").to_string_lossy())?;
-    let expected = books::answered(&input)?;
+    let expected = books::answered(&input, None)?;
     if expected != output {
         let line = expected.lines().zip(output.lines()).position(|(a, b)| a != b);
         return Err(format!("the stored answers to books differ from the model's, case {line:?}"));

@@ -1,6 +1,6 @@
 //! The second model: "Edits", "Tickets and steps", "Frames refused, in checking
-//! order" and "The program survey", and of document 02 "Words seen together" and
-//! "Who holds the word".
+//! order" and "The program survey", and of document 02 "Words seen together", "Who
+//! holds the word" and "Plumb legs".
 
 use crate::frames::{any_twice, next, parse, Answer, Field::*, Kind, Next, Request};
 use crate::layout::*;
@@ -29,7 +29,9 @@ pub fn listed_targets(edit: &Request) -> Vec<Target> {
     let place_in = |passage: i64| place(passage, edit.get(From), edit.get(To));
     // "'Before-word' is the link of f, or word 2p where f is 0."
     let before_word = if f == 0 { newest_word(p) } else { link_word(f) };
-    let measure = edit.measure().written();
+    // "A plumb leg's compass is taken as 0 in edits, quoted figures ... alike".
+    let [measure, new_measure] =
+        [edit.measure(), edit.new_measure()].map(|measure| measure.taken().written());
     match edit.kind {
         // "Add: word 2p h->r, count c->c+1, link r 0->h, place r 0->place,
         // measure r 0->measure."
@@ -43,7 +45,7 @@ pub fn listed_targets(edit: &Request) -> Vec<Target> {
         // "Correct: place r unchanged but quoted, measure r old->new."
         Kind::Correct => vec![
             target(place_word(r), place_in(p), place_in(p)),
-            target(measure_word(r), measure, edit.new_measure().written()),
+            target(measure_word(r), measure, new_measure),
         ],
         // "Strike: before-word r->s, count c->c-1, link r s->0, place r ->0,
         // measure r ->0."

@@ -93,12 +93,14 @@ fn stations(rng: &mut Prng) -> (i64, i64) {
     }
 }
 
-/// A measure; its least and greatest figures come often.
+/// A measure; its least and greatest figures come often, and clinos next to them.
 fn measure(rng: &mut Prng) -> [i64; 3] {
+    let beside = rng.percent(10);
     [Distance, Compass, Clino].map(|field| {
         let (least, greatest) = Request::new(Kind::Add, &[]).limits(field);
         let between = rng.between(least, greatest);
-        rng.pick(&[least, greatest, between, between, between])
+        let inward = i64::from(beside && field == Clino);
+        rng.pick(&[least + inward, greatest - inward, between, between, between])
     })
 }
 
@@ -114,8 +116,11 @@ fn draft(rng: &mut Prng, site: &Site, view: &Plain, team: i64) -> Request {
     let any = rng.below(last as i64 + 1) as usize;
     let index = rng.pick(&[0, last, any]);
     match rng.below(4) {
-        0 => draft_correct(rng, view, team, p, index),
-        1 => draft_strike(view, team, p, index),
+        0 => {
+            let edit = draft_correct(rng, view, team, p, index);
+            by_any_compass(rng, edit)
+        }
+        1 => by_any_compass(rng, draft_strike(view, team, p, index)),
         _ => {
             let others: Vec<i64> = site.passages.iter().copied().filter(|q| *q != p).collect();
             draft_move(view, team, p, rng.pick(&others), index)
@@ -165,6 +170,17 @@ fn draft_correct(rng: &mut Prng, view: &Plain, team: i64, p: i64, index: usize) 
 fn draft_strike(view: &Plain, team: i64, p: i64, index: usize) -> Request {
     quoting(view, Kind::Strike, team, p, index)
 }
+
+/// An edit that quotes a plumb leg by any of the compasses that members wrote for it.
+fn by_any_compass(rng: &mut Prng, mut edit: Request) -> Request {
+    if edit.measure().plumb() {
+        edit.set(Compass, rng.pick(&WRITTEN_FOR_ONE_SHAFT));
+    }
+    edit
+}
+
+/// "Two members wrote 0 and 18,000 for one shaft"; the greatest means the same.
+const WRITTEN_FOR_ONE_SHAFT: [i64; 3] = [0, 18_000, 35_999];
 
 fn draft_move(view: &Plain, team: i64, p: i64, q: i64, index: usize) -> Request {
     let mut edit = quoting(view, Kind::Move, team, p, index);
@@ -446,6 +462,77 @@ impl Author {
         }
     }
 
+    /// A shaft up and down, and legs just not plumb, each written by one compass,
+    /// corrected and struck by another: granted for the shafts alone.
+    fn every_shaft(&mut self) {
+        let compasses = WRITTEN_FOR_ONE_SHAFT;
+        let pairs = compasses.iter().flat_map(|one| compasses.map(|other| (*one, other)));
+        for (written, quoted) in pairs {
+            for clino in [-9_000, -8_999, 8_999, 9_000] {
+                self.shaft(clino, written, quoted);
+            }
+        }
+        [-9_000, 9_000].into_iter().for_each(|clino| self.compass_out_of_range(clino));
+    }
+
+    /// A leg added, corrected to a shorter one and back, and struck.
+    fn shaft(&mut self, clino: i64, written: i64, quoted: i64) {
+        let (p, r) = (self.site.passages[0], self.site.legs[0]);
+        let mut added = add(&mut self.rng, &self.watch.plain, 0, p, r);
+        set(&mut added, &[(Distance, 9_000), (Compass, written), (Clino, clino)]);
+        self.settle(&added);
+        for (old, new) in [(9_000, 8_000), (8_000, 9_000)] {
+            let mut corrected = quoting(&self.watch.plain, Kind::Correct, 1, p, 0);
+            set(&mut corrected, &[(Distance, old), (Compass, quoted), (Clino, clino)]);
+            set(&mut corrected, &[(NewDistance, new), (NewCompass, quoted), (NewClino, clino)]);
+            self.settle(&corrected);
+            self.say(&Request::look(measure_word(r)).bytes());
+        }
+        for compass in [quoted, written] {
+            let mut struck = quoting(&self.watch.plain, Kind::Strike, 2, p, 0);
+            set(&mut struck, &[(Distance, 9_000), (Compass, compass), (Clino, clino)]);
+            self.settle(&struck);
+            if self.watch.plain.find(r).is_none() {
+                return;
+            }
+        }
+    }
+
+    /// "though its field must still be in range": each compass field of each edit.
+    fn compass_out_of_range(&mut self, clino: i64) {
+        for (kind, field) in [
+            (Kind::Add, Compass),
+            (Kind::Correct, Compass),
+            (Kind::Correct, NewCompass),
+            (Kind::Strike, Compass),
+        ] {
+            for compass in [35_999, 36_000, 65_535] {
+                let mut edit = a_fair_edit(kind);
+                set(&mut edit, &[(Clino, clino), (NewClino, clino), (field, compass)]);
+                self.settle(&edit);
+            }
+        }
+    }
+
+    /// Two legs that change places between two passages, their moves opposite and
+    /// claimed in turn. Where the passages' ranks and numbers rise differently, the
+    /// first claim by position is not the first by word number.
+    fn cross(&mut self, p: i64, q: i64) {
+        let legs = self.rng.some(2, 1, LEGS);
+        for (passage, r) in [(p, legs[0]), (q, legs[1])] {
+            let added = add(&mut self.rng, &self.watch.plain, 0, passage, r);
+            self.settle(&added);
+        }
+        let moves = [(0, p, q), (1, q, p)]
+            .map(|(team, from, to)| draft_move(&self.watch.plain, team, from, to, 0));
+        moves.iter().for_each(|opened| drop(self.say(&opened.bytes())));
+        self.say(&Request::step(0).bytes());
+        self.say(&Request::step(1).bytes());
+        self.say(&Request::look(newest_word(p)).bytes());
+        self.say(&Request::look(newest_word(q)).bytes());
+        self.finish_all(Order::Rising);
+    }
+
     /// A move between each two passages of a fresh book, so that all its quotes
     /// are wrong: Stale names the word that is claimed first. And a view of a word
     /// of each: a look after its first claim shows which that was.
@@ -621,6 +708,15 @@ pub fn at_limits(seed: u64, frames: i64) -> Vec<u8> {
     author.bytes
 }
 
+/// Shafts by every compass, then contention.
+pub fn plumb(seed: u64, frames: i64) -> Vec<u8> {
+    let mut author = Author::new(seed);
+    author.every_shaft();
+    author.contend(frames);
+    author.sweep();
+    author.bytes
+}
+
 pub fn fuzz(seed: u64, frames: i64) -> Vec<u8> {
     let mut author = Author::new(seed);
     author.fuzz(frames);
@@ -683,12 +779,20 @@ pub fn of_hex(text: &str) -> Vec<u8> {
     text.split_whitespace().map(byte).collect()
 }
 
-/// The stored stream: the whole case, contention, fuzz, a sweep, a torn end.
+/// The stored stream: the whole case, shafts, crossing moves, a strike of f = r,
+/// contention, fuzz, a sweep, a torn end.
 pub fn stored() -> Vec<u8> {
     let mut author = Author::new(STORED_SEED);
     for frame in split(&whole_case().0) {
         author.say(frame);
     }
+    author.every_shaft();
+    // Passage 25 goes before 0 by rank, and 31 before 12.
+    author.cross(0, 25);
+    author.cross(31, 12);
+    let mut strike = a_fair_edit(Kind::Strike);
+    strike.set(F, strike.get(R));
+    author.say(&strike.bytes());
     author.contend(4_000);
     author.fuzz(1_500);
     author.contend(1_000);

@@ -34,6 +34,13 @@ const OUTCOMES: [&str; 21] = [
     "edit waits for view", "view waits for edit", "view waits for view",
 ];
 
+/// Measures of edits with a compass other than 0 at clino 9,000, 8,999 and their
+/// opposites: each must have been granted, and the plumb ones refused as well, by a
+/// compass out of range.
+const MEASURED: [&str; 4] = ["Add", "Correct", "Correct to", "Strike"];
+const STEEP: [(i64, &str); 4] =
+    [(9_000, "up"), (-9_000, "down"), (8_999, "nearly up"), (-8_999, "nearly down")];
+
 impl Tally {
     fn one_more(&mut self, name: &str) {
         *self.counts.entry(name.to_string()).or_default() += 1;
@@ -51,6 +58,9 @@ impl Tally {
             let Some(answer) = Answer::of_bytes(bytes) else { continue };
             self.count_answer(&answer);
             if let Ok(request) = parse(frame) {
+                if answer == Answer::Refused(10) {
+                    self.count_steep("refused", &request);
+                }
                 self.count_outcome(&mut open, request, &answer);
             }
         }
@@ -77,6 +87,7 @@ impl Tally {
             (Answer::Stale(..), Some((_, _, false))) => self.one_more("stale at once"),
             (Answer::Granted(_), Some((edit, waited, _))) => {
                 self.one_more(&granted_name(edit));
+                self.count_steep("granted", edit);
                 if *waited {
                     self.one_more("granted after waits");
                 }
@@ -88,6 +99,19 @@ impl Tally {
                 }
             }
             _ => {}
+        }
+    }
+
+    /// The edit's measures at a steep clino: granted with a compass, or refused with
+    /// one that is out of range.
+    fn count_steep(&mut self, outcome: &str, edit: &Request) {
+        let least = if outcome == "refused" { 36_000 } else { 1 };
+        let name = format!("{:?}", edit.kind);
+        for (name, of) in [(name.clone(), edit.measure()), (name + " to", edit.new_measure())] {
+            let steep = STEEP.iter().find(|(clino, _)| *clino == of.clino);
+            if let Some((_, way)) = steep.filter(|_| of.compass >= least) {
+                self.one_more(&format!("{outcome} {name} {way}"));
+            }
         }
     }
 
@@ -112,6 +136,7 @@ impl Tally {
         if with_outcomes {
             missing.extend(self.missing(OUTCOMES.map(str::to_string)));
             missing.extend(self.missing((0..TEAMS).map(wait_name)));
+            missing.extend(self.missing(steep_names()));
         }
         if missing.is_empty() {
             Ok(())
@@ -129,9 +154,17 @@ impl Tally {
 
     /// One line of how edits and views came out.
     pub fn outcomes(&self) -> String {
-        let counts = OUTCOMES.iter().map(|name| format!("{name} {}", self.of(name)));
+        let names = OUTCOMES.map(str::to_string).into_iter().chain(steep_names());
+        let counts = names.map(|name| format!("{name} {}", self.of(&name)));
         counts.collect::<Vec<_>>().join(", ")
     }
+}
+
+fn steep_names() -> Vec<String> {
+    let granted = STEEP.iter().map(|(_, way)| ("granted", *way));
+    let refused = STEEP[..2].iter().map(|(_, way)| ("refused", *way));
+    let ways = granted.chain(refused);
+    ways.flat_map(|(outcome, way)| MEASURED.map(|name| format!("{outcome} {name} {way}"))).collect()
 }
 
 fn wait_name(holder: i64) -> String {

@@ -2,7 +2,7 @@
 //! so that the comparison can be seen to tell each apart.
 
 use crate::frames::{parse, Answer, Field::*, Kind, Request};
-use crate::layout::{Word, NOBODY};
+use crate::layout::{measure_word, reading, Measure, Reading, Word, NOBODY};
 use crate::model::{listed_targets, targets_by, Desk, Phase, Ticket};
 
 #[derive(Clone, Copy, Debug, PartialEq, Eq)]
@@ -41,9 +41,29 @@ pub enum Fault {
     SixteenNamed,
     /// Waiting has team and word in each other's place.
     WordTeamExchanged,
+    /// Only legs at clino 9,000 are plumb.
+    PlumbUpOnly,
+    /// Legs at clino 8,999 and -8,999 are plumb too.
+    NearlyPlumb,
+    /// Add writes a plumb leg's compass as sent.
+    AddNotAdjusted,
+    /// Correct quotes a plumb leg's compass as sent.
+    OldNotAdjusted,
+    /// Correct writes a plumb leg's compass as sent.
+    NewNotAdjusted,
+    /// Strike quotes a plumb leg's compass as sent.
+    StrikeNotAdjusted,
+    /// A plumb leg's compass may be out of range.
+    PlumbRangeSkipped,
+    /// A plumb leg's compass other than 0 is out of range.
+    PlumbRefused,
+    /// A plumb leg with another compass reads as one with 0.
+    PlumbReads,
+    /// A plumb leg reads as no leg.
+    PlumbUnread,
 }
 
-pub const FAULTS: [(&str, Fault); 17] = [
+pub const FAULTS: [(&str, Fault); 27] = [
     ("waiting-when-free", Fault::WaitingWhenFree),
     ("gives-back-new", Fault::GivesBackNew),
     ("listing-order", Fault::ListingOrder),
@@ -61,6 +81,16 @@ pub const FAULTS: [(&str, Fault); 17] = [
     ("waiter-named", Fault::WaiterNamed),
     ("sixteen-named", Fault::SixteenNamed),
     ("word-team-exchanged", Fault::WordTeamExchanged),
+    ("plumb-up-only", Fault::PlumbUpOnly),
+    ("nearly-plumb", Fault::NearlyPlumb),
+    ("add-not-adjusted", Fault::AddNotAdjusted),
+    ("old-not-adjusted", Fault::OldNotAdjusted),
+    ("new-not-adjusted", Fault::NewNotAdjusted),
+    ("strike-not-adjusted", Fault::StrikeNotAdjusted),
+    ("plumb-range-skipped", Fault::PlumbRangeSkipped),
+    ("plumb-refused", Fault::PlumbRefused),
+    ("plumb-reads", Fault::PlumbReads),
+    ("plumb-unread", Fault::PlumbUnread),
 ];
 
 pub fn named(name: &str) -> Option<Fault> {
@@ -82,7 +112,7 @@ pub fn answer(fault: Fault, desk: &mut Desk, frame: &[u8]) -> Answer {
             return instead;
         }
     }
-    let answer = desk.answer(frame);
+    let answer = desk.answer(&sent_otherwise(fault, request).bytes());
     let after = desk.tickets.get_mut(&team);
     match (fault, &answer, after) {
         (Fault::ListingOrder, Answer::Standing(_), Some(ticket)) => {
@@ -114,9 +144,85 @@ pub fn answer(fault: Fault, desk: &mut Desk, frame: &[u8]) -> Answer {
         (Fault::ClaimedOrder, Answer::Standing(_), Some(ticket)) if request.kind == Kind::View => {
             ticket.targets.iter_mut().for_each(|target| target.new = Word::Value(target.word));
         }
+        (_, Answer::Standing(_), Some(ticket)) => write_otherwise(fault, &request, ticket),
         _ => {}
     }
     answer
+}
+
+/// The request with a plumb leg's compass, where a program takes another for its range.
+fn sent_otherwise(fault: Fault, mut request: Request) -> Request {
+    let measures = [(Compass, request.measure()), (NewCompass, request.new_measure())];
+    for (field, measure) in measures.into_iter().filter(|(_, measure)| measure.plumb()) {
+        match fault {
+            Fault::PlumbRangeSkipped => request.set(field, 0),
+            Fault::PlumbRefused if measure.compass != 0 => request.set(field, 36_000),
+            _ => {}
+        }
+    }
+    request
+}
+
+/// Measures in a ticket's targets by another rule for the compass.
+fn write_otherwise(fault: Fault, edit: &Request, ticket: &mut Ticket) {
+    let written = |measure: Measure, adjusted: bool| {
+        let compass = if adjusted { 0 } else { measure.compass };
+        Word::Value(Measure { compass, ..measure }.written())
+    };
+    let adjusted = |measure: Measure| match fault {
+        Fault::PlumbUpOnly => measure.clino == 9_000,
+        Fault::NearlyPlumb => measure.clino.abs() >= 8_999,
+        _ => false,
+    };
+    let (sent, new) = (edit.measure(), edit.new_measure());
+    let rule = matches!(fault, Fault::PlumbUpOnly | Fault::NearlyPlumb);
+    for target in ticket.targets.iter_mut().filter(|t| t.word == measure_word(edit.get(R))) {
+        match edit.kind {
+            Kind::Add if rule || fault == Fault::AddNotAdjusted => {
+                target.new = written(sent, adjusted(sent));
+            }
+            Kind::Strike if rule || fault == Fault::StrikeNotAdjusted => {
+                target.quoted = written(sent, adjusted(sent));
+            }
+            Kind::Correct => {
+                if rule || fault == Fault::OldNotAdjusted {
+                    target.quoted = written(sent, adjusted(sent));
+                }
+                if rule || fault == Fault::NewNotAdjusted {
+                    target.new = written(new, adjusted(new));
+                }
+            }
+            _ => {}
+        }
+    }
+}
+
+/// What a program with this fault reads.
+pub fn read(fault: Option<Fault>, place: u64, measure: u64) -> Option<Reading> {
+    match fault {
+        Some(Fault::PlumbReads) => reading(place, without_plumb_compass(measure)),
+        Some(Fault::PlumbUnread) => reading(place, measure).filter(|leg| !leg.measure.plumb()),
+        _ => reading(place, measure),
+    }
+}
+
+/// A book as a check with this fault takes it.
+pub fn book(fault: Option<Fault>, book: &[Word]) -> Vec<Word> {
+    let mut taken = book.to_vec();
+    if fault == Some(Fault::PlumbReads) {
+        for word in taken.iter_mut().skip(64 + 2).step_by(3) {
+            *word = Word::of_bits(without_plumb_compass(word.bits()));
+        }
+    }
+    taken
+}
+
+/// The measure's word with compass 0 if its clino is plumb.
+fn without_plumb_compass(measure: u64) -> u64 {
+    match measure >> 33 {
+        0 | 18_000 => measure & !(0xFFFF << 17),
+        _ => measure,
+    }
 }
 
 /// Changes a ticket before its step, or answers in place of the step.

@@ -50,6 +50,13 @@ fn wrong_programs_are_told_apart() {
     for fault in ["waiter-named", "word-team-exchanged"] {
         told_apart(fault);
     }
+    for fault in ["plumb-up-only", "nearly-plumb", "plumb-range-skipped", "plumb-refused"] {
+        told_apart(fault);
+    }
+    for fault in ["add-not-adjusted", "old-not-adjusted", "new-not-adjusted", "strike-not-adjusted"]
+    {
+        told_apart(fault);
+    }
 }
 
 #[test]

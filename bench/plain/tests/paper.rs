@@ -72,9 +72,9 @@ fn refused(number: u16) -> Vec<u8> {
 /// Distance 5,000, compass 9,000, clino -150.
 const M: [u16; 4] = [5_000, 0, 9_000, -150i16 as u16];
 const MEASURE: u64 = 76_022_100_792_200;
-/// Distance 100,000, compass 35,999, clino 9,000.
+/// Distance 100,000, compass 35,999, clino 9,000: a plumb leg, with compass 0 in the book.
 const M2: [u16; 4] = [34_464, 1, 35_999, 9_000];
-const MEASURE2: u64 = 100_000 + (35_999 << 17) + (18_000 << 33);
+const MEASURE2: u64 = 100_000 + (18_000 << 33);
 
 fn add(team: u16, p: u16, r: u16, h: u16, c: u16) -> Vec<u8> {
     frame(&[&[1, team, p, r, h, c, 1, 2], &M[..]].concat())
@@ -158,8 +158,110 @@ fn examples_5_and_6_and_7_and_11() {
         [strike(0, 0, 3, 3, 0, 1), refused(11)],
         [add([34_464, 1, 9_000, -9_000i16 as u16]), frame(&[128, 5])],
         [step(0).repeat(10), through(0, 5)[1][6..].to_vec()],
-        [look(66), value(100_000 + (9_000 << 17))],
+        [look(66), value(100_000)],
     ]);
+}
+
+const UP: u16 = 9_000;
+const DOWN: u16 = -9_000i16 as u16;
+
+/// A measure of distance 5,000.
+fn measure(compass: u16, clino: u16) -> [u16; 4] {
+    [5_000, 0, compass, clino]
+}
+
+// Leg 1 of passage 0 with these measures: added as its first, corrected, struck.
+
+fn add_measure(m: [u16; 4]) -> Vec<u8> {
+    frame(&[&[1, 0, 0, 1, 0, 0, 1, 2], &m[..]].concat())
+}
+
+fn correct_measure(old: [u16; 4], new: [u16; 4]) -> Vec<u8> {
+    frame(&[&[2, 0, 0, 1, 1, 2], &old[..], &new[..]].concat())
+}
+
+fn strike_measure(m: [u16; 4]) -> Vec<u8> {
+    frame(&[&[3, 0, 0, 0, 1, 0, 1, 1, 2], &m[..]].concat())
+}
+
+#[test]
+fn plumb_legs_have_no_compass() {
+    for (clino, offset) in [(UP, 18_000), (DOWN, 0)] {
+        let shaft = |compass| measure(compass, clino);
+        let stored = value(5_000 + (offset << 33));
+        check(&[
+            edit(add_measure(shaft(18_000)), 0, 5),
+            [look(66), stored.clone()],
+            // One shaft, whichever compass is quoted for it, and written as before.
+            edit(correct_measure(shaft(0), shaft(35_999)), 0, 2),
+            [look(66), stored.clone()],
+            edit(correct_measure(shaft(18_000), M), 0, 2),
+            [look(66), value(MEASURE)],
+            edit(correct_measure(M, shaft(1)), 0, 2),
+            [look(66), stored.clone()],
+            edit(strike_measure(shaft(35_999)), 0, 5),
+            [look(66), value(0)],
+            edit(add_measure(shaft(0)), 0, 5),
+            [look(66), stored],
+            // The other figures are still compared.
+            [correct_measure([5_001, 0, 0, clino], M), frame(&[128, 2])],
+            [step(0), frame(&[129, 1])],
+            [step(0), frame(&[131, 66])],
+            [step(0), stale(66, 3)],
+            [
+                correct_measure(measure(0, clino.wrapping_neg()), M),
+                frame(&[128, 2]),
+            ],
+            [step(0), frame(&[129, 1])],
+            [step(0), frame(&[131, 66])],
+            [step(0), stale(66, 3)],
+        ]);
+    }
+}
+
+#[test]
+fn a_plumb_leg_is_moved_as_it_is() {
+    check(&[
+        edit(add_measure(measure(500, DOWN)), 0, 5),
+        edit(move_leg(0, 0, 1, [0, 1, 0, 1], [0, 0]), 0, 6),
+        [
+            [look(65), look(66)].concat(),
+            [value(place(1)), value(5_000)].concat(),
+        ],
+    ]);
+}
+
+#[test]
+fn a_leg_that_is_nearly_plumb_has_a_compass() {
+    for (clino, offset) in [(8_999, 17_999), (-8_999i16 as u16, 1)] {
+        let steep = |compass| measure(compass, clino);
+        check(&[
+            edit(add_measure(steep(18_000)), 0, 5),
+            [look(66), value(5_000 + (18_000 << 17) + (offset << 33))],
+            [correct_measure(steep(0), M), frame(&[128, 2])],
+            [step(0), frame(&[129, 1])],
+            [step(0), frame(&[131, 66])],
+            [step(0), stale(66, 3)],
+            edit(correct_measure(steep(18_000), steep(35_999)), 0, 2),
+            [look(66), value(5_000 + (35_999 << 17) + (offset << 33))],
+        ]);
+    }
+}
+
+#[test]
+fn the_compass_field_of_a_plumb_leg_is_in_range() {
+    for clino in [UP, DOWN] {
+        for compass in [36_000, 65_535] {
+            let shaft = measure(compass, clino);
+            check(&[
+                [add_measure(shaft), refused(10)],
+                [correct_measure(shaft, M), refused(10)],
+                [correct_measure(M, shaft), refused(10)],
+                [strike_measure(shaft), refused(10)],
+                [add_measure(measure(35_999, clino)), frame(&[128, 5])],
+            ]);
+        }
+    }
 }
 
 #[test]

@@ -7,7 +7,7 @@ use Rattle.words.specs.Words.{measureWord}
 use Rattle.legs.specs.declared.Leg.{Leg}
 use Rattle.legs.specs.declared.Reading.{Reading}
 use Rattle.legs.specs.declared.Reading.the-variants.{NoLeg, Is}
-use Rattle.legs.specs.Legs.{clinoOffset, placeOf, measureOf, placeInRange, measureInRange}
+use Rattle.legs.specs.Legs.{clinoOffset, isPlumb, placeOf, measureOf, placeInRange, measureInRange}
 use Rattle.legs.specs.Reading.{isPlace, isMeasure, readingOf}
 use Rattle.legs.specs.Positions.{positionOf}
 
@@ -53,7 +53,8 @@ that-leg-read = refl
 abbrev readBack : Leg → Reading
 readBack leg = readingOf (placeOf (leg .passage) (leg .stations)) (measureOf (leg .measure))
 
-largest : readBack (leg 31 65535 65534 100000 35999 (pos 9000)) ≡ Is (leg 31 65535 65534 100000 35999 (pos 9000))
+-- The last of every range: a plumb leg, whose compass is taken as 0.
+largest : readBack (leg 31 65535 65534 100000 35999 (pos 9000)) ≡ Is (leg 31 65535 65534 100000 0 (pos 9000))
 unfolding readingOf isPlace isMeasure placeInRange measureInRange allHold
 largest = refl
 
@@ -77,3 +78,17 @@ passage-32 = refl
 clino-9001 : readBack (leg 0 1 2 5000 9000 (pos 9001)) ≡ NoLeg
 unfolding readingOf isPlace isMeasure placeInRange measureInRange allHold
 clino-9001 = refl
+
+-- One shaft, written twice: "two members wrote 0 and 18,000".
+one-shaft : measureOf (leg 0 1 2 5000 18000 (negsuc 8999) .measure) ≡ measureOf (leg 0 1 2 5000 0 (negsuc 8999) .measure)
+one-shaft = refl
+
+-- The word of that shaft with its compass kept, as a book from before may have it: 5,000 + 2^17 × 18,000.
+compass-kept : readingOf 8388673 2359301000 ≡ NoLeg
+unfolding readingOf isPlace isMeasure placeInRange measureInRange allHold
+compass-kept = refl
+
+-- One hundredth less steep, the compass counts.
+nearly-plumb : readBack (leg 0 1 2 5000 18000 (pos 8999)) ≡ Is (leg 0 1 2 5000 18000 (pos 8999))
+unfolding readingOf isPlace isMeasure placeInRange measureInRange allHold
+nearly-plumb = refl

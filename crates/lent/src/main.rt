@@ -271,6 +271,39 @@ fn opened(book: &mut [u64; Limits::WORDS]) {
     desk::ask(book, third, change);
 }
 
+// Leg 7 alone in passage 0, plumb, with the compass 18,000 that older books may have.
+fn lend_plumb_leg(book: &mut [u64; Limits::WORDS]) -> Tickets {
+    let fresh = desk::fresh(book);
+    desk::set_word(book, 0, 7);
+    desk::set_word(book, 1, 1);
+    desk::set_word(book, 83, 8388673);
+    desk::set_word(book, 84, 154621181957000);
+    fresh
+}
+
+// Corrected and struck in vain, then moved to passage 25.
+fn plumb_leg(book: &mut [u64; Limits::WORDS]) {
+    let correct =
+        b"\x1c\x00\x02\x00\x01\x00\x00\x00\x07\x00\x01\x00\x02\x00\x88\x13\x00\x00\x50\x46\x28\x23\x01\x00\x00\x00\x50\x46\x28\x23";
+    let strike =
+        b"\x1a\x00\x03\x00\x01\x00\x00\x00\x00\x00\x07\x00\x00\x00\x01\x00\x01\x00\x02\x00\x88\x13\x00\x00\x50\x46\x28\x23";
+    let change =
+        b"\x18\x00\x04\x00\x01\x00\x00\x00\x19\x00\x00\x00\x07\x00\x00\x00\x01\x00\x00\x00\x00\x00\x01\x00\x02\x00";
+    say::text(b"# A plumb leg written with another compass: nothing quotes it, but it moves.\n");
+    let lent = lend_plumb_leg(book);
+    let correcting = desk::ask(book, lent, correct);
+    let corrected = desk::three_steps(book, correcting, 1);
+    let striking = desk::ask(book, corrected, strike);
+    let claimed = desk::three_steps(book, striking, 1);
+    let found = desk::three_steps(book, claimed, 1);
+    let struck = desk::three_steps(book, found, 1);
+    let moving = desk::ask(book, struck, change);
+    let half = desk::three_steps(book, moving, 1);
+    let all = desk::three_steps(book, half, 1);
+    let put = desk::three_steps(book, all, 1);
+    desk::three_steps(book, put, 1);
+}
+
 fn tell_clino(clino: i16) {
     if clino < 0 {
         say::text(b" -");
@@ -317,6 +350,17 @@ fn readings() {
     read(Cases::HELD - 1, Cases::LARGEST);
 }
 
+// Plumb up and down with compass 0 and 18,000, and 18,000 where the clino is one hundredth less steep.
+fn plumb_readings() {
+    say::text(b"# Reading plumb legs.\n");
+    read(8388673, 154618822661000);
+    read(8388673, 154621181957000);
+    read(8388673, 5000);
+    read(8388673, 2359301000);
+    read(8388673, 154612592022408);
+    read(8388673, 10949235592);
+}
+
 fn main() {
     say::text(b"# Calls that a stream can't reach. Lines that begin with = are the model's.\n");
     other_books();
@@ -334,5 +378,7 @@ fn main() {
     changes_of_phase(&mut book);
     tries_stop(&mut book);
     opened(&mut book);
+    plumb_leg(&mut book);
     readings();
+    plumb_readings();
 }

@@ -27,7 +27,7 @@ module _ (lists : Lists) (fair : Fair lists) (p : ℕ) (x : NumberedLeg) (y : Me
   stays F e = sum-same F lists (correct lists p (x .number) y) passageCount (λ q l. elim (ℕ-discrete q p) [ yes k ↦ rw (k, eq-eqb p p refl) e | no n ↦ rw (ne-eqb q p n) ])
 
   in-range : (a : NumberedLeg) → InRange a → InRange (remeasured y a)
-  in-range a h = record { number = h .number; most = h .most; place = h .place; measure = y-fits .measure }
+  in-range a h = record { number = h .number; most = h .most; place = h .place; measure = y-fits .measure; as-taken = y-fits .as-taken }
 
   pub correct-sound : Fair (correct lists p (x .number) y)
   correct-sound = record {

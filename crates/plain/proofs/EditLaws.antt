@@ -6,6 +6,7 @@ use Prim.Native.Nat.{ℕ, zero, suc, _+_, _<_}
 use native.Mathlib.Omega.{arith}
 use lib.ListN.{length, getD, replicate}
 use Rattle.words.specs.Words.{passageCount}
+use Rattle.legs.specs.Legs.{taken}
 use Rattle.tickets.specs.Targets.{AllMatch, PutInto}
 use Rattle.edits.specs.declared.Edit.{Edit}
 use Rattle.edits.specs.declared.Edit.the-variants as Edit
@@ -32,8 +33,8 @@ unfolding legCount
 count-replaced lists p l i = sum-replaced (λ p l. length l) lists p l passageCount i
 
 count-edit : (lists : Lists) (e : Edit) → Allowed e → Can lists e → legCount (apply lists e) + strikesIn e ≡ legCount lists + addsIn e
-count-edit lists (Edit.Add e) f c = omega (arith, count-replaced lists (e .passage) (legOf (e .leg) (e .stations) (e .measure) ∷ lists (e .passage)) (f .passage))
-count-edit lists (Edit.Correct e) f c = omega (arith, count-replaced lists (e .passage) (withMeasure (e .leg) (e .new) (lists (e .passage))) (f .passage), with-length (e .leg) (e .new) (lists (e .passage)))
+count-edit lists (Edit.Add e) f c = omega (arith, count-replaced lists (e .passage) (legOf (e .leg) (e .stations) (taken (e .measure)) ∷ lists (e .passage)) (f .passage))
+count-edit lists (Edit.Correct e) f c = omega (arith, count-replaced lists (e .passage) (withMeasure (e .leg) (taken (e .new)) (lists (e .passage))) (f .passage), with-length (e .leg) (taken (e .new)) (lists (e .passage)))
 count-edit lists (Edit.Strike e) f c = omega (arith, count-replaced lists (e .passage) (without (e .leg) (lists (e .passage))) (f .passage), without-length (e .leg) (lists (e .passage)) (c .leg .inside))
 count-edit lists (Edit.Move e) f c =
     let struck = strike lists (e .passage) (e .leg) in

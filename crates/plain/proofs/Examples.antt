@@ -120,6 +120,43 @@ correct-stale :
 unfolding succeeds perform attempt findBelow allHold
 correct-stale = refl
 
+-- One shaft, straight down: "Two members wrote 0 and 18,000" for its compass.
+abbrev shaft : ℕ → Measure
+shaft compass = measured 7000 compass (negsuc 8999)
+
+abbrev shaftBook : Measure → Plain
+shaftBook measure = bookOf (numbered 1 (fromTo 1 2) measure ∷ []) []
+
+-- However its compass is sent, the shaft is added with compass 0;
+shafts-added :
+    map (λ (compass : ℕ). attempt freshPlain (adding 0 (numbered 1 (fromTo 1 2) (shaft compass)) 0 0)) (0 ∷ 18000 ∷ 35999 ∷ [])
+    ≡ replicate 3 (shaftBook (shaft 0))
+unfolding succeeds perform attempt findBelow allHold
+shafts-added = refl
+
+-- however it is quoted, a correction succeeds, and a new measure that is plumb is kept with compass 0.
+shaft-corrected :
+    map
+    (λ (compass : ℕ). attempt (shaftBook (shaft 0)) (Correct (record { passage = 0; leg = 1; stations = fromTo 1 2; old = shaft compass; new = measured 7100 compass (pos 9000) })))
+    (0 ∷ 18000 ∷ 35999 ∷ [])
+    ≡ replicate 3 (shaftBook (measured 7100 0 (pos 9000)))
+unfolding succeeds perform attempt findBelow allHold
+shaft-corrected = refl
+
+-- So does a strike.
+shaft-struck :
+    attempt (shaftBook (shaft 0)) (Strike (record { passage = 0; newer = 0; leg = 1; older = 0; count = 1; stations = fromTo 1 2; measure = shaft 18000 }))
+    ≡ freshPlain
+unfolding succeeds perform attempt findBelow allHold
+shaft-struck = refl
+
+-- One hundredth less steep, the compass counts: the correction is stale.
+nearly-plumb-stale :
+    succeeds (shaftBook (measured 7000 0 (negsuc 8998))) (Correct (record { passage = 0; leg = 1; stations = fromTo 1 2; old = measured 7000 18000 (negsuc 8998); new = other }))
+    ≡ false
+unfolding succeeds perform attempt findBelow allHold
+nearly-plumb-stale = refl
+
 -- Strike: leg 2 goes, from between 3 and 1.
 strike-succeeds : outcome (striking 3 1 3 ofTwo level) ≡ (true, bookOf (leg3 ∷ leg1 ∷ []) (leg4 ∷ []))
 unfolding succeeds perform attempt findBelow allHold

@@ -12,8 +12,9 @@ use Rattle.legs.specs.declared.Stations.{Stations}
 use Rattle.legs.specs.declared.Measure.{Measure}
 use Rattle.legs.specs.declared.Leg.{Leg}
 use Rattle.legs.specs.declared.Reading.the-variants.{Is}
-use Rattle.legs.specs.Legs.{placeOf, measureOf, placeInRange, measureInRange, legInRange}
+use Rattle.legs.specs.Legs.{placeOf, measureOf, taken, takenLeg, placeInRange, measureInRange, legInRange}
 use Rattle.legs.specs.Reading.{readingOf}
+use Rattle.legs.proofs.Ranges.{taken-same}
 use Rattle.legs.proofs.RoundTrip.{legs-read-back}
 use Rattle.plain.specs.Figures.{sameInteger, sameStations, sameMeasure}
 use Rattle.plain.specs.Plain.{NumberedLeg, inPassage}
@@ -45,10 +46,10 @@ pub measure-same : (a b : Measure) → a ≡ b → sameMeasure a b ≡ true
 measure-same a b e = subst (λ b. sameMeasure a b ≡ true) e (join (eqb (a .distance) (a .distance) ∷ eqb (a .compass) (a .compass) ∷ sameInteger (a .clino) (a .clino) ∷ [])
     (eq-eqb (a .distance) (a .distance) refl, (eq-eqb (a .compass) (a .compass) refl, (integer-refl (a .clino), tt))))
 
--- Two legs in range with the same words are the same.
-same-leg : (x y : Leg) → legInRange x ≡ true → legInRange y ≡ true → placeOf (y .passage) (y .stations) ≡ placeOf (x .passage) (x .stations) → measureOf (y .measure) ≡ measureOf (x .measure) → y ≡ x
+-- Two legs in range with the same words are the same, with their compasses as they are taken.
+same-leg : (x y : Leg) → legInRange x ≡ true → legInRange y ≡ true → placeOf (y .passage) (y .stations) ≡ placeOf (x .passage) (x .stations) → measureOf (y .measure) ≡ measureOf (x .measure) → takenLeg y ≡ takenLeg x
 same-leg x y x-fits y-fits e m =
-    let both : Is y ≡ Is x = sym (legs-read-back y y-fits) ∙ (λ i. readingOf (e i) (m i)) ∙ legs-read-back x x-fits in
+    let both : Is (takenLeg y) ≡ Is (takenLeg x) = sym (legs-read-back y y-fits) ∙ (λ i. readingOf (e i) (m i)) ∙ legs-read-back x x-fits in
     cc
 
 -- A leg with the stations of one leg and the measure of another, in range if these are.
@@ -70,4 +71,6 @@ place-tells p q x y p-fits q-fits x-fits y-fits e =
 -- and a measure its figures.
 pub measure-tells : (p : ℕ) (x y : NumberedLeg) → p < passageCount → InRange x → InRange y → measureAt y ≡ measureAt x → y .measure ≡ x .measure
 measure-tells p x y p-fits x-fits y-fits e =
-    ap (λ l. l .measure) (same-leg (inPassage p x) (mixed p x y) (leg-in-range p x p-fits x-fits) (mixed-in-range p x y p-fits x-fits y-fits) refl e)
+    sym (taken-same (y .measure) (y-fits .as-taken))
+    ∙ ap (λ l. l .measure) (same-leg (inPassage p x) (mixed p x y) (leg-in-range p x p-fits x-fits) (mixed-in-range p x y p-fits x-fits y-fits) refl e)
+    ∙ taken-same (x .measure) (x-fits .as-taken)

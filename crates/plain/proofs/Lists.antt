@@ -15,7 +15,7 @@ use borrow.Author.Tests.{eq-eqb, ne-eqb, leb-true, le-leb}
 use Rattle.words.specs.Tests.{within}
 use Rattle.words.specs.Words.{passageCount, lastLeg, firstLegWord}
 use Rattle.words.proofs.Tests.{split, join}
-use Rattle.legs.specs.Legs.{placeInRange, measureInRange, legInRange}
+use Rattle.legs.specs.Legs.{isTaken, placeInRange, measureInRange, legInRange}
 use Rattle.legs.proofs.Ranges.{place-fits, fits-place}
 use Rattle.plain.specs.Plain.{Plain, NumberedLeg, Located, inPassage, listOf, findBehind, findBelow, find, linkOf, placeWordOf, measureWordOf, passageWord, legWord, wordOf, legsBelow, numberedInRange, allInRange, timesIn, timesBelow, Sound}
 use Rattle.plain.proofs.Sums.{replaced, sumBelow, sum-some}
@@ -129,7 +129,7 @@ word-of plain u w = go (ltb w firstLegWord) (w % 2) ((w - firstLegWord) % 3)
 -- The rules of the plain book.
 pub in-range : (p : ℕ) (a : NumberedLeg) → numberedInRange p a ≡ true → InRange a
 in-range p a e =
-    let (n, (r, u)) = split (within 1 lastLeg (a .number) ∷ legInRange (inPassage p a) ∷ []) e in
+    let (n, (r, (t, u))) = split (within 1 lastLeg (a .number) ∷ legInRange (inPassage p a) ∷ isTaken (a .measure) ∷ []) e in
     let (least, (most, v)) = split (leb 1 (a .number) ∷ leb (a .number) lastLeg ∷ []) n in
     let (placed, (measured, w)) = split (placeInRange p (a .stations) ∷ measureInRange (a .measure) ∷ []) r in
     let l = place-fits p (a .stations) placed in
@@ -138,12 +138,13 @@ in-range p a e =
       most = leb-true _ _ most;
       place = λ q q-fits. fits-place q (a .stations) (record { passage-fits = q-fits; from-fits = l .from-fits; to-fits = l .to-fits; differ = l .differ });
       measure = measured;
+      as-taken = t;
     }
 
 pub range-in : (p : ℕ) (a : NumberedLeg) → p < passageCount → InRange a → numberedInRange p a ≡ true
 range-in p a p-fits h =
-    join (within 1 lastLeg (a .number) ∷ legInRange (inPassage p a) ∷ [])
-    (join (leb 1 (a .number) ∷ leb (a .number) lastLeg ∷ []) (le-leb _ _ (h .number), (le-leb _ _ (h .most), tt)), (leg-in-range p a p-fits h, tt))
+    join (within 1 lastLeg (a .number) ∷ legInRange (inPassage p a) ∷ isTaken (a .measure) ∷ [])
+    (join (leb 1 (a .number) ∷ leb (a .number) lastLeg ∷ []) (le-leb _ _ (h .number), (le-leb _ _ (h .most), tt)), (leg-in-range p a p-fits h, (h .as-taken, tt)))
 
 pub all-range : (p : ℕ) (l : List NumberedLeg) → allInRange p l ≡ true → Every InRange l
 all-range p [] e = tt

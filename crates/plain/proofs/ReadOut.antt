@@ -8,8 +8,9 @@ use native.Mathlib.Decide.{ℕ-discrete}
 use borrow.Author.Tests.{eq-eqb, ne-eqb}
 use Rattle.words.specs.Tests.{allHold}
 use Rattle.words.specs.Words.{passageCount, placeWord, measureWord}
-use Rattle.legs.specs.declared.Reading.the-variants.{NoLeg}
-use Rattle.legs.specs.Legs.{placeInRange, measureInRange}
+use Rattle.legs.specs.declared.Reading.the-variants.{NoLeg, Is}
+use Rattle.legs.specs.Legs.{isPlumb, placeInRange, measureInRange}
+use Rattle.legs.proofs.Ranges.{taken-same}
 use Rattle.legs.specs.Reading.{isPlace, isMeasure, readingOf}
 use Rattle.legs.proofs.RoundTrip.{legs-read-back}
 use Rattle.plain.specs.Plain.{Plain, NumberedLeg, inPassage, listOf, find, linkOf, placeWordOf, measureWordOf, timesIn, wordOf, Sound}
@@ -68,7 +69,8 @@ module _ (plain : Plain) (sound : Sound plain) (p : ℕ) (p-fits : p < passageCo
   reads-as : ReadsAs plain p leg older
   reads-as = record {
     link = words-follow-layout plain .link (leg .number) (leg-fits .number) ∙ words .link ∙ given (λ q. olderOf);
-    reading = (λ i. readingOf (place-is i) (measure-is i)) ∙ legs-read-back (inPassage p leg) (leg-in-range p leg p-fits leg-fits);
+    reading = (λ i. readingOf (place-is i) (measure-is i)) ∙ legs-read-back (inPassage p leg) (leg-in-range p leg p-fits leg-fits)
+        ∙ (λ i. Is (record { passage = p; stations = leg .stations; measure = taken-same (leg .measure) (leg-fits .as-taken) i }));
   }
 
 pub legs-read-out : LegsReadOut

@@ -7,7 +7,7 @@ use Prim.Native.Nat.{ℕ, zero, suc, _+_, _-_, _≤_, _<_}
 use lib.ListN.{length}
 use Rattle.words.specs.Words.{passageCount, lastLeg}
 use Rattle.legs.specs.declared.Measure.{Measure}
-use Rattle.legs.specs.Legs.{placeOf, measureOf, placeInRange, measureInRange}
+use Rattle.legs.specs.Legs.{placeOf, measureOf, isTaken, placeInRange, measureInRange}
 use Rattle.plain.specs.Plain.{NumberedLeg, newestIn, timesIn}
 use Rattle.plain.specs.Editing.{without, withMeasure}
 use Rattle.plain.proofs.Sums.{Lists, replaced, sumBelow}
@@ -55,6 +55,7 @@ pub record InRange (a : NumberedLeg) : Type 0 where
   pub most : a .number ≤ lastLeg
   pub place : (p : ℕ) → p < passageCount → placeInRange p (a .stations) ≡ true
   pub measure : measureInRange (a .measure) ≡ true
+  pub as-taken : isTaken (a .measure) ≡ true
 
 -- All in range, no number twice.
 pub record Fair (lists : Lists) : Type 0 where

@@ -14,7 +14,8 @@ use Rattle.words.specs.Tests.{allHold, within}
 use Rattle.words.specs.Words.{Words, lastLeg, newestWord, countWord, linkWord, placeWord, measureWord, readOf}
 use Rattle.words.proofs.Tests.{split, join}
 use Rattle.legs.specs.declared.Reading.the-variants.{NoLeg, Is}
-use Rattle.legs.specs.Legs.{placeOf, measureOf, placeInRange, measureInRange, legInRange}
+use Rattle.legs.specs.Legs.{placeOf, measureOf, isTaken, placeInRange, measureInRange, legInRange}
+use Rattle.legs.proofs.Figures.{written-taken}
 use Rattle.legs.specs.Reading.{passageIn, stationsIn, measureIn, isPlace, isMeasure, readingOf}
 use Rattle.plain.specs.Plain.{NumberedLeg, inPassage, newestIn, timesIn}
 use Rattle.plain.proofs.OneList.{atLeg, Every, times-there}
@@ -46,6 +47,7 @@ record FiguresOf (p place measure : ℕ) : Type 0 where
   pub measured : measureInRange (measureIn measure) ≡ true
   pub place-is : placeOf p (stationsIn place) ≡ place
   pub measure-is : measureOf (measureIn measure) ≡ measure
+  pub as-taken : isTaken (measureIn measure) ≡ true
 
 figures-of : (p place measure : ℕ) → isOfPassage p (readingOf place measure) ≡ true → FiguresOf p place measure
 unfolding readingOf isPlace isMeasure
@@ -64,6 +66,7 @@ figures-of p place measure e = by-tests (allHold (isPlace place ∷ isMeasure me
           measured = measured;
           place-is = subst (λ (q : ℕ). placeOf q (stationsIn place) ≡ place) here (eqb-true _ _ place-written);
           measure-is = eqb-true _ _ measure-written;
+          as-taken = written-taken measure (eqb-true _ _ measure-written);
         }
     by-tests false t same = absurd (false≢true same)
 
@@ -109,8 +112,8 @@ one-more words p n leg used after follows rest =
       starts = refl;
       stand = (
         record {
-          fits = in-range p (legAt words leg) (join (within 1 lastLeg leg ∷ legInRange (inPassage p (legAt words leg)) ∷ [])
-              (number-in leg (follows .least) (follows .most), (join tests (figures .placed, (figures .measured, tt)), tt)));
+          fits = in-range p (legAt words leg) (join (within 1 lastLeg leg ∷ legInRange (inPassage p (legAt words leg)) ∷ isTaken (legAt words leg .measure) ∷ [])
+              (number-in leg (follows .least) (follows .most), (join tests (figures .placed, (figures .measured, tt)), (figures .as-taken, tt))));
           link-is = rest .starts;
           place-is = figures .place-is;
           measure-is = figures .measure-is;

@@ -111,6 +111,28 @@ walk-no words whole broken = says-no words lastLeg whole (omega arith) (sound-of
 rest-no : (words : Words) (used : List ℕ) (n : ℕ) → length words ≡ wordsInBook → n ≤ lastLeg → walkBelow words passageCount ≡ some used → restZero words used n ≡ false → checked words ≡ No
 rest-no words used n whole most walked other = says-no words lastLeg whole (omega arith) (sound-by words used walked ∙ rest-off words used n lastLeg most other)
 
+-- A shaft alone in its book, with a measure of its own: straight down, 5,000 mm, and the same with compass 500.
+abbrev shaftFront : ℕ → Words
+shaftFront measure = 1 ∷ 1 ∷ replicate 63 0 ++ (8388673 ∷ measure ∷ [])
+
+shaft-walked : walkBelow (shaftFront 5000 ++ replicate 4029 0) passageCount ≡ some (1 ∷ [])
+unfolding everything
+shaft-walked = refl
+
+shaft-rest : restZero (shaftFront 5000 ++ replicate 4029 0) (1 ∷ []) 1 ≡ true
+unfolding everything
+shaft-rest = refl
+
+shaft-yes : checked (shaftFront 5000 ++ replicate 4029 0) ≡ Yes
+shaft-yes = zeros-after (shaftFront 5000) 4029 (1 ∷ []) 1 1343 refl refl (omega arith) shaft-walked shaft-rest
+
+compass-walked : walkBelow (shaftFront 65541000 ++ replicate 4029 0) passageCount ≡ none
+unfolding everything
+compass-walked = refl
+
+compass-no : checked (shaftFront 65541000 ++ replicate 4029 0) ≡ No
+compass-no = walk-no (shaftFront 65541000 ++ replicate 4029 0) refl compass-walked
+
 -- Leg 3 comes after itself: twice in one passage.
 twice : walkBelow (wrong (linkWord 3) 3) passageCount ≡ none
 unfolding everything

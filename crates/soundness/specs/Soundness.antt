@@ -1,15 +1,18 @@
 -- "A check answers yes exactly when the words are those of some plain book."
-use Prim.Native.Nat.{ℕ, _≤_, _<_}
+use Prim.Native.Nat.{ℕ, _+_, _*_, _/_, _≤_, _<_}
 use mathlib.Core.Path.{_≡_}
 use mathlib.Core.List.{List}
-use mathlib.Core.Logic.{_↔_}
+use mathlib.Core.Bool.{true}
+use mathlib.Core.Logic.{_↔_, _≢_}
 use lib.ListN.{length}
-use Rattle.words.specs.Words.{Words, wordsInBook, lastLeg, readOf}
+use lib.IntN.{ℤ}
+use Rattle.words.specs.Words.{Words, wordsInBook, lastLeg, measureWord, readOf}
+use Rattle.legs.specs.Legs.{compassUnit, clinoUnit, clinoOffset, isPlumb}
 use Rattle.plain.specs.Plain.{Plain, wordOf, Sound}
 use Rattle.calls.specs.Run.{Call, OfBytes}
 use Rattle.calls.specs.Order.{HeldBy}
 use Rattle.calls.specs.Linearizable.{Every, heardOn, bookAfter}
-use Rattle.soundness.specs.declared.Checked.the-variants.{Yes}
+use Rattle.soundness.specs.declared.Checked.the-variants.{Yes, No}
 use Rattle.soundness.specs.Answering.{checkOf}
 
 -- The words are those of some plain book that keeps its rules.
@@ -21,6 +24,15 @@ abbrev pub YesExactlyToPlainBooks : Type 0
 YesExactlyToPlainBooks =
     (words : Words) (room : ℕ)
     → (checkOf words room ≡ Yes) ↔ ((length words ≡ wordsInBook) × (lastLeg ≤ room) × OfSomePlainBook words)
+
+-- Statement: "a plumb leg with another compass reads as no leg, and the book check says no to it", whichever leg it is and whatever else the book holds.
+abbrev pub PlumbCompassIsUnsound : Type 0
+PlumbCompassIsUnsound =
+    (words : Words) (room leg distance compass : ℕ) (clino : ℤ)
+    → length words ≡ wordsInBook → lastLeg ≤ room → 1 ≤ leg → leg ≤ lastLeg
+    → distance < compassUnit → compass < clinoUnit / compassUnit → isPlumb clino ≡ true → compass ≢ 0
+    → readOf words (measureWord leg) ≡ distance + compassUnit * compass + clinoUnit * clinoOffset clino
+    → checkOf words room ≡ No
 
 -- No team holds any word after a list of calls.
 abbrev pub NothingHeld : List Call → Type 0

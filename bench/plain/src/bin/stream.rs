@@ -20,6 +20,12 @@ const REFUSALS: u64 = 5;
 /// passages that other teams work in.
 const WRONG: u64 = 4;
 const AWAY: u64 = 6;
+/// Of a hundred measures, how many are plumb legs'.
+const PLUMB: u64 = 5;
+/// The clino of a leg straight up; straight down it is the negative.
+const STEEPEST: i16 = 9_000;
+/// Compasses in range are below this.
+const COMPASSES: u16 = 36_000;
 /// The book fills up to so many legs, then empties to so few, then fills again.
 const MANY: usize = 1_100;
 const FEW: usize = 400;
@@ -55,10 +61,41 @@ struct Measure {
 
 impl Measure {
     fn any(dice: &mut Dice) -> Self {
+        let distance = 1 + dice.below(100_000) as u32;
+        let clino = match dice.below(100) {
+            share if share >= PLUMB => dice.below(18_001) as i16 - STEEPEST,
+            share if share % 2 == 0 => STEEPEST,
+            _ => -STEEPEST,
+        };
         Measure {
-            distance: 1 + dice.below(100_000) as u32,
-            compass: dice.below(36_000) as u16,
-            clino: dice.below(18_001) as i16 - 9_000,
+            distance,
+            compass: Self::any_compass(dice),
+            clino,
+        }
+    }
+
+    fn any_compass(dice: &mut Dice) -> u16 {
+        dice.below(COMPASSES as u64) as u16
+    }
+
+    fn is_plumb(self) -> bool {
+        self.clino.abs() == STEEPEST
+    }
+
+    /// The measure as the lists keep it: a plumb leg has no compass reading.
+    fn taken(self) -> Self {
+        let compass = if self.is_plumb() { 0 } else { self.compass };
+        Measure { compass, ..self }
+    }
+
+    /// The measure as a team quotes it: each writes a compass of its own for a shaft.
+    fn quoted(self, dice: &mut Dice) -> Self {
+        if !self.is_plumb() {
+            return self;
+        }
+        Measure {
+            compass: Self::any_compass(dice),
+            ..self
         }
     }
 }
@@ -104,7 +141,18 @@ enum Edit {
     },
 }
 
-/// The passages' lists, newest leg last.
+impl Edit {
+    /// Whether a measure in it is a plumb leg's.
+    fn has_plumb_measure(&self) -> bool {
+        match self {
+            Edit::Add { leg, .. } | Edit::Strike { leg, .. } => leg.measure.is_plumb(),
+            Edit::Correct { leg, new, .. } => leg.measure.is_plumb() || new.is_plumb(),
+            Edit::Move { .. } => false,
+        }
+    }
+}
+
+/// The passages' lists, newest leg last. A plumb leg's compass is 0 in them.
 #[derive(Clone)]
 struct Lists(Vec<Vec<Leg>>);
 
@@ -145,7 +193,7 @@ impl Lists {
         let there = &self.of(p)[at];
         let same = there.from == leg.from
             && there.to == leg.to
-            && (!with_measure || there.measure == leg.measure);
+            && (!with_measure || there.measure == leg.measure.taken());
         same.then_some(at)
     }
 
@@ -156,13 +204,14 @@ impl Lists {
                 if self.newest(p) != h || self.count(p) != c || self.has(leg.number) {
                     return false;
                 }
-                self.0[p as usize].push(leg);
+                let measure = leg.measure.taken();
+                self.0[p as usize].push(Leg { measure, ..leg });
             }
             Edit::Correct { p, leg, new } => {
                 let Some(at) = self.quoted(p, &leg, true) else {
                     return false;
                 };
-                self.0[p as usize][at].measure = new;
+                self.0[p as usize][at].measure = new.taken();
             }
             Edit::Strike { p, f, s, c, leg } => {
                 let Some(at) = self.quoted(p, &leg, true) else {
@@ -289,6 +338,9 @@ struct Teams {
     /// Whether the ticket is a view.
     viewing: [bool; TEAMS],
     filling: bool,
+    /// How many edits were sent, and how many of them with a plumb leg's measure.
+    edits: u64,
+    plumb_edits: u64,
 }
 
 impl Teams {
@@ -352,16 +404,16 @@ impl Teams {
             .below(count as u64)
             .min(self.dice.below(count as u64)) as usize;
         let at = count as usize - 1 - depth;
-        let leg = self.lists.of(p)[at];
+        let mut leg = self.lists.of(p)[at];
+        leg.measure = leg.measure.quoted(&mut self.dice);
         let (f, s) = self.lists.beside(p, at);
         if choice < 65 {
             let c = count + off;
             return Edit::Strike { p, f, s, c, leg };
         }
         if choice < 82 {
-            let mut leg = leg;
             if off == 1 {
-                leg.measure.compass = (leg.measure.compass + 1) % 36_000;
+                leg.measure.distance = leg.measure.distance % 100_000 + 1;
             }
             return Edit::Correct {
                 p,
@@ -399,7 +451,7 @@ impl Teams {
             c: 0,
             leg,
         };
-        match self.dice.below(8) {
+        match self.dice.below(9) {
             0 => {
                 // A whole frame of two or three bytes.
                 let mut bytes = [0; LONGEST_FRAME];
@@ -426,7 +478,7 @@ impl Teams {
                     leg,
                 },
             ),
-            _ => edit_frame(
+            7 => edit_frame(
                 team,
                 &Edit::Add {
                     p: 0,
@@ -435,6 +487,24 @@ impl Teams {
                     leg,
                 },
             ),
+            // The compass of a plumb leg is to be in range, though it isn't kept.
+            _ => {
+                let measure = Measure {
+                    compass: COMPASSES,
+                    clino: STEEPEST,
+                    ..leg.measure
+                };
+                let leg = Leg { measure, ..leg };
+                edit_frame(
+                    team,
+                    &Edit::Add {
+                        p: 0,
+                        h: 0,
+                        c: 0,
+                        leg,
+                    },
+                )
+            }
         }
     }
 
@@ -455,6 +525,8 @@ impl Teams {
         }
         let edit = self.edit(team);
         self.open[team as usize] = Some(edit);
+        self.edits += 1;
+        self.plumb_edits += edit.has_plumb_measure() as u64;
         edit_frame(team, &edit)
     }
 
@@ -549,6 +621,8 @@ fn main() -> io::Result<()> {
         found: [false; TEAMS],
         viewing: [false; TEAMS],
         filling: true,
+        edits: 0,
+        plumb_edits: 0,
     };
     let mut kinds = [0u64; 256];
     for _ in 0..frames {
@@ -578,7 +652,9 @@ fn main() -> io::Result<()> {
     ];
     let counts = names.map(|(kind, name)| format!("{name} {}", kinds[kind as usize]));
     eprintln!(
-        "{frames} frames, seed {seed}; answers: {}",
+        "{frames} frames, seed {seed}; edits: {}, with a plumb measure {}; answers: {}",
+        teams.edits,
+        teams.plumb_edits,
         counts.join(", ")
     );
     Ok(())
