@@ -12,9 +12,9 @@ use Rattle.frames.specs.Numbers.{numbers16, fields64}
 use Rattle.frames.specs.Requests.{lengthFits, addIn, correctIn, strikeIn, moveIn, editOfKind, requestOfKind, requestIn}
 use Rattle.frames.specs.Answers.{answerFrame}
 use Rattle.frames.specs.Writing.{requestFrame}
-use Rattle.calls.specs.Call.{refusalTests, refusalOf, requestDone, doneOf, sentOf, callOf}
+use Rattle.calls.specs.Call.{refusalChecks, refusalOf, requestDone, doneOf, sentOf, callOf}
 use Rattle.calls.specs.Survey.{surveyFrom, surveyOf}
 
 unfoldable pub everything : Unit {0}
-unfolding allHold someHolds allOccur distinct measureInRange positionOf allWellMade wellMade swapTried valueNoted settled stepOf listedTargets editInRange editRepeats insertBy orderedBy openedTicket allInBook viewInRange viewRepeats openedView numbers16 fields64 lengthFits addIn correctIn strikeIn moveIn editOfKind requestOfKind requestIn answerFrame requestFrame refusalTests refusalOf requestDone doneOf sentOf callOf surveyFrom surveyOf
+unfolding allHold someHolds allOccur distinct measureInRange positionOf allWellMade wellMade swapTried valueNoted settled stepOf listedTargets editInRange editRepeats insertBy orderedBy openedTicket allInBook viewInRange viewRepeats openedView numbers16 fields64 lengthFits addIn correctIn strikeIn moveIn editOfKind requestOfKind requestIn answerFrame requestFrame refusalChecks refusalOf requestDone doneOf sentOf callOf surveyFrom surveyOf
 everything = tt

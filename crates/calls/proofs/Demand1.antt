@@ -76,7 +76,7 @@ module _ (words : Words) (tickets : Tickets) (frame out : Bytes) where
       let same : NothingChanged words tickets frame out = record { same-tickets = left-tickets result is; same-words = left-words result is } in
       elim (decLt refusal 3) [
         | yes small ↦
-            let out-alone : gone ≡ (refusal, out) = gone-out result is (number refusal) (sent-alone refusal small) in
+            let out-alone : gone ≡ (refusal, out) = gone-out result is (number refusal) (sent-alone refusal least small) in
             turned-away refusal given least (omega arith) (ap (λ (gone : ℕ × Bytes). gone .0) out-alone) (ap (λ (gone : ℕ × Bytes). gone .1) out-alone) same
         | no large ↦ refused refusal given (omega arith) (omega arith) (answers result is table (sent-refused refusal (omega arith))) same
       ]

@@ -115,7 +115,7 @@ standing-right ticket (some noted) known = decided-as (noted .asked) ticket note
 
 -- The book and tickets that a call leaves are those of what it does.
 left-kept : (shared : Shared) (n : Notes) → TableFits (shared .tickets) → Good shared n → (frame out : Bytes) → areBytes frame ≡ true
-    → Good (leftBy shared (framed frame out)) (hearAnswer n (framed frame out) (some (doneOf (shared .book) (shared .tickets) frame out .answer)))
+    → Good (leftBy shared (framed frame out)) (hearAnswer n frame (some (doneOf (shared .book) (shared .tickets) frame out .answer)))
 unfolding callOf
 left-kept shared n table good frame out bytes = call-kept shared n table good frame out bytes
 
@@ -127,8 +127,8 @@ calls-keep [] bytes shared n table good = good
 calls-keep (framed frame out ∷ calls) bytes shared n table good =
     calls-keep calls (bytes .1) (leftBy shared (framed frame out)) _ (tables-stay (shared .book) (shared .tickets) frame out table) one-kept
   where
-    one-kept : Good (leftBy shared (framed frame out)) (hearAnswer n (framed frame out) (answerHeard (heardOf shared (framed frame out))))
-    one-kept = subst (λ answer. Good (leftBy shared (framed frame out)) (hearAnswer n (framed frame out) answer)) (sym (answers-heard shared frame out table))
+    one-kept : Good (leftBy shared (framed frame out)) (hearAnswer n frame (answerHeard (heardOf shared (framed frame out))))
+    one-kept = subst (λ answer. Good (leftBy shared (framed frame out)) (hearAnswer n frame answer)) (sym (answers-heard shared frame out table))
         (left-kept shared n table good frame out (bytes .0))
 
 -- The table stays one as the code has it.

@@ -7,12 +7,10 @@ use native.Mathlib.Decide.{decLt}
 use native.Mathlib.Omega.{arith}
 use lib.ListN.{length, take, drop}
 use lib.Seq.{take-append-seam, drop-append-seam}
-use borrow.Author.Tests.{lt-ltb, le-ltb}
 use Rattle.words.specs.Words.{Words}
 use Rattle.tickets.specs.declared.Tickets.{Tickets}
 use Rattle.frames.specs.Request.{Request, Open, Step, Look, View}
 use Rattle.frames.specs.Requests.{requestIn}
-use Rattle.frames.proofs.Ranges.{within-in, within-above}
 use Rattle.frames.specs.declared.Answer.{Answer}
 use Rattle.frames.specs.declared.Answer.the-variants as Answer
 use Rattle.frames.specs.Numbers.{Bytes}
@@ -23,7 +21,7 @@ use Rattle.frames.proofs.ReadsBack.{answers-read-back}
 use Rattle.calls.specs.Call.{refusalOf, requestDone, refusedOr, Sent, number, bytes, sentOf, writtenBy, doneOf, callOf}
 use Rattle.calls.specs.Run.{Call, framed, Heard, answerHeard}
 use Rattle.calls.specs.Demand1.{AnswersHeard}
-use Rattle.calls.proofs.Refusing.{Among, refusal-among}
+use Rattle.calls.proofs.Refusing.{not-returned, returned-alone, Among, refusal-among}
 use Rattle.calls.proofs.Fitting.{answer-fits}
 
 -- An answer's frame, written to an output: it is read back, and later bytes stay.
@@ -51,20 +49,20 @@ frame-heard : (call : Call) (out : Bytes) (answer : Answer) → answerFits answe
 unfolding answerHeard
 frame-heard call out answer fits =
     let sound = in-frame out answer fits in
-    rw (within-above 1 2 (length (answerFrame answer)) (omega (arith, sound .at-least))) (sound .bytes-read)
+    rw (not-returned (length (answerFrame answer)) (omega (arith, sound .at-least))) (sound .bytes-read)
 
 number-heard : (call : Call) (out : Bytes) (refusal : ℕ) → 1 ≤ refusal → refusal < 3 → answerHeard (heardBy call (refusal, out)) ≡ some (Answer.Refused refusal)
 unfolding answerHeard
-number-heard call out refusal least small = rw (within-in 1 2 refusal least (omega arith)) refl
+number-heard call out refusal least small = rw (returned-alone refusal least small) refl
 
 -- 1 and 2 go out as a number alone, 3 to 11 in a frame.
-pub sent-alone : (refusal : ℕ) → refusal < 3 → sentOf (Answer.Refused refusal) ≡ number refusal
+pub sent-alone : (refusal : ℕ) → 1 ≤ refusal → refusal < 3 → sentOf (Answer.Refused refusal) ≡ number refusal
 unfolding sentOf
-sent-alone refusal small = rw (lt-ltb refusal 3 small)
+sent-alone refusal least small = rw (returned-alone refusal least small)
 
 pub sent-refused : (refusal : ℕ) → 3 ≤ refusal → sentOf (Answer.Refused refusal) ≡ bytes (answerFrame (Answer.Refused refusal))
 unfolding sentOf
-sent-refused refusal large = rw (le-ltb refusal 3 large)
+sent-refused refusal large = rw (not-returned refusal large)
 
 -- A refusal has a number from 1 on.
 abbrev Numbered : Answer → Type 0
@@ -96,7 +94,7 @@ sent-heard call out (Answer.Look answer) least fits = frame-heard call out (Answ
 sent-heard call out (Answer.Refused refusal) least fits =
     let hear : Sent → Option Answer = λ (sent : Sent). answerHeard (heardBy call (writtenBy out sent)) in
     elim (decLt refusal 3) [
-      | yes small ↦ ap hear (sent-alone refusal small) ∙ number-heard call out refusal least small
+      | yes small ↦ ap hear (sent-alone refusal least small) ∙ number-heard call out refusal least small
       | no large ↦ ap hear (sent-refused refusal (omega arith)) ∙ frame-heard call out (Answer.Refused refusal) fits
     ]
 

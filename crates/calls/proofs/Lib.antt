@@ -1,9 +1,9 @@
+pub mod Refusing
 pub mod Way
 pub mod WellMadeTables
 pub mod Sending
 pub mod Streaming
 pub mod Tables
-pub mod Refusing
 pub mod Fitting
 pub mod Hearing
 pub mod Demand1

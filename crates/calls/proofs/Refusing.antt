@@ -5,7 +5,8 @@ use mathlib.Core.Bool.{Bool, true, false, cond, not, false≢true, true≢false}
 use mathlib.Core.List.{List, [], _∷_}
 use mathlib.Core.Option.{Option, none, some}
 use native.Mathlib.Omega.{arith}
-use borrow.Author.Tests.{leb-true, ltb-false, eqb-true, not-false}
+use borrow.Author.Tests.{leb-true, ltb-false, eqb-true, eq-eqb, ne-eqb, not-false}
+use native.Mathlib.Decide.{ℕ-discrete}
 use lib.Dec.{eqb, leb, ltb}
 use lib.ListN.{length}
 use Rattle.words.specs.Tests.{someHolds}
@@ -21,7 +22,42 @@ use Rattle.frames.specs.Requests.{lengthField, kindField, headBytes, partAfterK
 use Rattle.frames.specs.Fields.{longestFrame, frameTorn, kindUnknown, lengthWrong, ViewFields, FieldsOf, Whole, fieldOutOfRange, fieldRepeated}
 use Rattle.frames.proofs.Bytes.{length-numbers16}
 use Rattle.frames.proofs.Headers.{whole}
-use Rattle.calls.specs.Call.{bookLengthWrong, outputShort, teamUnknown, badlyMade, ownTicketBadlyMade, opensOverTicket, stepWithoutTicket, refusalTests, firstFrom, refusalOf}
+use Rattle.calls.specs.Call.{bookLengthWrong, outputShort, teamUnknown, badlyMade, ownTicketBadlyMade, opensOverTicket, stepWithoutTicket, Check, check, firstOf, isReturned, refusalChecks, refusalOf}
+
+-- Checks whose numbers follow each other.
+abbrev pub numbered : ℕ → List Bool → List Check
+numbered number [] = []
+numbered number (applies ∷ later) = check number applies ∷ numbered (number + 1) later
+
+abbrev pub firstFrom : ℕ → List Bool → Option ℕ
+firstFrom number tests = firstOf (numbered number tests)
+
+-- The tests of the refusals 1 to 11.
+abbrev pub refusalTests : Words → Tickets → Bytes → Bytes → List Bool
+refusalTests words tickets frame out =
+    let request = requestIn frame in
+    bookLengthWrong words
+    ∷ outputShort out
+    ∷ frameTorn frame
+    ∷ kindUnknown frame
+    ∷ lengthWrong frame
+    ∷ teamUnknown request
+    ∷ ownTicketBadlyMade tickets request
+    ∷ opensOverTicket tickets request
+    ∷ stepWithoutTicket tickets request
+    ∷ fieldOutOfRange request
+    ∷ fieldRepeated request
+    ∷ []
+
+-- The number of a refusal from 3 on is not returned alone, 1 and 2 are.
+pub not-returned : (refusal : ℕ) → 3 ≤ refusal → isReturned refusal ≡ false
+not-returned refusal large = rw (ne-eqb refusal 1 (λ e. omega arith), ne-eqb refusal 2 (λ e. omega arith)) refl
+
+pub returned-alone : (refusal : ℕ) → 1 ≤ refusal → refusal < 3 → isReturned refusal ≡ true
+returned-alone refusal least small = elim (ℕ-discrete refusal 1) [
+  | yes one ↦ rw (eq-eqb refusal 1 one) refl
+  | no other ↦ rw (ne-eqb refusal 1 other, eq-eqb refusal 2 (omega arith)) refl
+]
 
 -- A number given is that of one of the tests,
 abbrev pub Among : ℕ → ℕ → Option ℕ → Type 0
@@ -39,7 +75,7 @@ first-among first (false ∷ tests) = later-among first (length tests) (firstFro
 
 -- 1 to 11.
 pub refusal-among : (words : Words) (tickets : Tickets) (frame out : Bytes) → Among 1 11 (refusalOf words tickets frame out)
-unfolding refusalOf refusalTests
+unfolding refusalOf refusalChecks
 refusal-among words tickets frame out = first-among 1 (refusalTests words tickets frame out)
 
 -- and where none is given, every test fails.
@@ -70,7 +106,7 @@ pub record Passed (words : Words) (tickets : Tickets) (frame out : Bytes) : Type
   pub named-once : fieldRepeated (requestIn frame) ≡ false
 
 pub passed : (words : Words) (tickets : Tickets) (frame out : Bytes) → refusalOf words tickets frame out ≡ none → Passed words tickets frame out
-unfolding refusalOf refusalTests
+unfolding refusalOf refusalChecks
 passed words tickets frame out none-given =
     let (one, (two, (three, (four, (five, (six, (seven, (eight, (nine, (ten, (eleven, u))))))))))) = none-first 1 (refusalTests words tickets frame out) none-given in
     record {

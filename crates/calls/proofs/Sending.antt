@@ -32,7 +32,8 @@ use Rattle.calls.specs.declared.Aim.{Aim}
 use Rattle.calls.specs.declared.Aim.the-variants as Aim
 use Rattle.calls.specs.declared.Settled.{Settled}
 use Rattle.calls.specs.declared.Reply.{Reply}
-use Rattle.calls.specs.Call.{refusalTests, refusalOf, Done, done, refusedOr, doneOf, Sent, number, bytes, sentOf, writtenBy, callOf}
+use Rattle.calls.proofs.Refusing.{not-returned}
+use Rattle.calls.specs.Call.{refusalChecks, refusalOf, Done, done, refusedOr, doneOf, Sent, number, bytes, sentOf, writtenBy, callOf}
 use Rattle.calls.specs.Way.{aimBy, aimOf, slotOf, settled, lookSettled, openSettled, viewSettled, stepSettled, newSettled, teamSettled, settledBy, wayDone, wayOf}
 use Rattle.calls.proofs.Way.{way-is-call}
 
@@ -48,7 +49,7 @@ unfolding sentOf
 framed-sent (Answer.Standing n) f = refl
 framed-sent (Answer.Step answer) f = refl
 framed-sent (Answer.Look answer) f = refl
-framed-sent (Answer.Refused refusal) f = ap (λ b. cond b (number refusal) (bytes (answerFrame (Answer.Refused refusal)))) (le-ltb refusal 3 f)
+framed-sent (Answer.Refused refusal) f = ap (λ b. cond b (number refusal) (bytes (answerFrame (Answer.Refused refusal)))) (not-returned refusal f)
 
 -- Every answer of the way is one.
 FramedAim : Aim → Type 0
@@ -154,12 +155,12 @@ call-way words tickets frame out whole room =
 
 pub call-no-book : (words : Words) (tickets : Tickets) (frame out : Bytes) → (length words ≡ wordsInBook → ⊥)
     → _≡_ {A = Reply × Words × Bytes} (record { written = 1; tickets = tickets }, words, out) (callOf words tickets frame out)
-unfolding callOf doneOf refusalOf refusalTests sentOf
+unfolding callOf doneOf refusalOf refusalChecks sentOf
 call-no-book words tickets frame out n = rw (ne-eqb (length words) wordsInBook n) refl
 
 pub call-no-room : (words : Words) (tickets : Tickets) (frame out : Bytes) → length words ≡ wordsInBook → length out < longestAnswer
     → _≡_ {A = Reply × Words × Bytes} (record { written = 2; tickets = tickets }, words, out) (callOf words tickets frame out)
-unfolding callOf doneOf refusalOf refusalTests sentOf
+unfolding callOf doneOf refusalOf refusalChecks sentOf
 call-no-room words tickets frame out whole short = rw (eq-eqb (length words) wordsInBook whole, lt-ltb (length out) longestAnswer short) refl
 
 -- The same from what the code has: where the frame is aimed, its slot, what it settled, what was written.

@@ -35,7 +35,8 @@ use Rattle.frames.proofs.Headers.{kind-tests, refused-tests, edit-asked, step-a
 use Rattle.calls.specs.declared.Aim.{Aim}
 use Rattle.calls.specs.declared.Aim.the-variants as Aim
 use Rattle.calls.specs.declared.Settled.{Settled}
-use Rattle.calls.specs.Call.{bookLengthWrong, outputShort, teamUnknown, ownTicketBadlyMade, opensOverTicket, stepWithoutTicket, refusalTests, firstFrom, refusalOf, Done, done, requestDone, refusedOr, doneOf}
+use Rattle.calls.specs.Call.{bookLengthWrong, outputShort, teamUnknown, ownTicketBadlyMade, opensOverTicket, stepWithoutTicket, refusalChecks, refusalOf, Done, done, requestDone, refusedOr, doneOf}
+use Rattle.calls.proofs.Refusing.{firstFrom}
 use Rattle.calls.specs.Way.{aimBy, aimOf, slotOf, settled, lookSettled, openSettled, viewSettled, newSettled, teamSettled, settledBy, wayDone, wayOf, WayIsCall}
 
 -- The tests from refusal 6 on, and what a request comes to by them.
@@ -169,7 +170,7 @@ look-done words tickets frame = look-way words tickets (number16 (partAfterKind 
 module _ (words : Words) (tickets : Tickets) (frame out : Bytes) (whole : length words ≡ wordsInBook) (room : longestAnswer ≤ length out) where
   -- Neither 1 nor 2 applies.
   from-three : refusalOf words tickets frame out ≡ firstFrom 3 (frameTorn frame ∷ kindUnknown frame ∷ lengthWrong frame ∷ laterTests tickets (requestIn frame))
-  unfolding refusalOf refusalTests
+  unfolding refusalOf refusalChecks
   from-three = rw (eq-eqb (length words) wordsInBook whole, le-ltb (length out) longestAnswer room) refl
 
   refused-way : (number : ℕ) → headerOf frame ≡ Header.Refused number → refusalOf words tickets frame out ≡ some number → doneOf words tickets frame out ≡ wayOf words tickets frame

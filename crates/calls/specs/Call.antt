@@ -5,7 +5,7 @@ use mathlib.Core.Bool.{Bool, false, cond, not}
 use mathlib.Core.Option.{Option, none, some}
 use lib.ListN.{length}
 use lib.Dec.{eqb, ltb}
-use Rattle.words.specs.Tests.{allHold}
+use Rattle.words.specs.Tests.{allHold, occurs}
 use Rattle.words.specs.Words.{Words, wordsInBook, teamCount}
 use Rattle.tickets.specs.declared.Ticket.{Ticket}
 use Rattle.tickets.specs.declared.Tickets.{Tickets}
@@ -62,31 +62,38 @@ stepWithoutTicket tickets (Step team) = not (hasTicket (ticketOf tickets team .p
 stepWithoutTicket tickets (Look word) = false
 stepWithoutTicket tickets (View team n words) = false
 
--- The refusals' tests, in checking order, 1 to 11.
-unfoldable pub refusalTests : Words → Tickets → Bytes → Bytes → List Bool
-refusalTests words tickets frame out =
-    let request = requestIn frame in
-    bookLengthWrong words
-    ∷ outputShort out
-    ∷ frameTorn frame
-    ∷ kindUnknown frame
-    ∷ lengthWrong frame
-    ∷ teamUnknown request
-    ∷ ownTicketBadlyMade tickets request
-    ∷ opensOverTicket tickets request
-    ∷ stepWithoutTicket tickets request
-    ∷ fieldOutOfRange request
-    ∷ fieldRepeated request
-    ∷ []
+-- A check: its number, and whether it applies.
+pub record Check : Type 0 where
+  pub number : ℕ
+  pub applies : Bool
 
--- The number of the first test that applies, if one does.
-abbrev pub firstFrom : ℕ → List Bool → Option ℕ
-firstFrom number [] = none
-firstFrom number (applies ∷ later) = cond applies (some number) (firstFrom (number + 1) later)
+abbrev pub check : ℕ → Bool → Check
+check number applies = record { number = number; applies = applies }
 
 -- "The first that applies is given, and none otherwise."
+abbrev pub firstOf : List Check → Option ℕ
+firstOf [] = none
+firstOf (one ∷ later) = cond (one .applies) (some (one .number)) (firstOf later)
+
+-- "Frames refused, in checking order".
+unfoldable pub refusalChecks : Words → Tickets → Bytes → Bytes → List Check
+refusalChecks words tickets frame out =
+    let request = requestIn frame in
+    check 1 (bookLengthWrong words)
+    ∷ check 2 (outputShort out)
+    ∷ check 3 (frameTorn frame)
+    ∷ check 4 (kindUnknown frame)
+    ∷ check 5 (lengthWrong frame)
+    ∷ check 6 (teamUnknown request)
+    ∷ check 7 (ownTicketBadlyMade tickets request)
+    ∷ check 8 (opensOverTicket tickets request)
+    ∷ check 9 (stepWithoutTicket tickets request)
+    ∷ check 10 (fieldOutOfRange request)
+    ∷ check 11 (fieldRepeated request)
+    ∷ []
+
 unfoldable pub refusalOf : Words → Tickets → Bytes → Bytes → Option ℕ
-refusalOf words tickets frame out = firstFrom 1 (refusalTests words tickets frame out)
+refusalOf words tickets frame out = firstOf (refusalChecks words tickets frame out)
 
 -- What a call does before it is answered: the answer, the tickets and the words that it leaves.
 pub record Done : Type 0 where
@@ -122,11 +129,14 @@ pub data Sent : Type 0 where
   bytes : Bytes → Sent
 
 -- "1 and 2 return their number and write nothing; 3 to 11 write a Refused frame."
+abbrev pub isReturned : ℕ → Bool
+isReturned refusal = occurs refusal (1 ∷ 2 ∷ [])
+
 unfoldable pub sentOf : Answer → Sent
 sentOf (Answer.Standing n) = bytes (answerFrame (Answer.Standing n))
 sentOf (Answer.Step answer) = bytes (answerFrame (Answer.Step answer))
 sentOf (Answer.Look answer) = bytes (answerFrame (Answer.Look answer))
-sentOf (Answer.Refused refusal) = cond (ltb refusal 3) (number refusal) (bytes (answerFrame (Answer.Refused refusal)))
+sentOf (Answer.Refused refusal) = cond (isReturned refusal) (number refusal) (bytes (answerFrame (Answer.Refused refusal)))
 
 -- The number returned, and the output: "later bytes of the output keep their contents".
 abbrev pub writtenBy : Bytes → Sent → ℕ × Bytes

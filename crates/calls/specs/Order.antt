@@ -18,6 +18,7 @@ use Rattle.edits.specs.Views.{claimedWords}
 use Rattle.frames.specs.Request.{Request, Open, Step, Look, View}
 use Rattle.frames.specs.declared.Answer.{Answer}
 use Rattle.frames.specs.declared.Answer.the-variants as Answer
+use Rattle.frames.specs.Numbers.{Bytes}
 use Rattle.frames.specs.Requests.{requestIn}
 use Rattle.frames.specs.Answers.{valuesShown}
 use Rattle.calls.specs.Run.{Call, framed, Heard, answerHeard}
@@ -222,33 +223,35 @@ abbrev pub hearLook : Notes → ℕ → LookAnswer → Notes
 hearLook n word (Value value) = noteEvent n (looked word value)
 hearLook n word Held = n
 
--- "Nothing else has a place in the order, and every refusal is passed over." An answer that does not fit its frame is out of turn.
-abbrev pub hearRequest : Notes → Request → Answer → Notes
-hearRequest n (Open team edit) (Answer.Standing targets) = hearOpened n team (anEdit edit) targets
-hearRequest n (Open team edit) (Answer.Step answer) = noteOutOfTurn n
-hearRequest n (Open team edit) (Answer.Look answer) = noteOutOfTurn n
-hearRequest n (Open team edit) (Answer.Refused refusal) = n
-hearRequest n (Step team) (Answer.Standing targets) = noteOutOfTurn n
-hearRequest n (Step team) (Answer.Step answer) = hearStep n team (n .tickets team) answer
-hearRequest n (Step team) (Answer.Look answer) = noteOutOfTurn n
-hearRequest n (Step team) (Answer.Refused refusal) = n
-hearRequest n (Look word) (Answer.Standing targets) = noteOutOfTurn n
-hearRequest n (Look word) (Answer.Step answer) = noteOutOfTurn n
-hearRequest n (Look word) (Answer.Look answer) = hearLook n word answer
-hearRequest n (Look word) (Answer.Refused refusal) = n
-hearRequest n (View team many words) (Answer.Standing targets) = hearOpened n team (aView words) targets
-hearRequest n (View team many words) (Answer.Step answer) = noteOutOfTurn n
-hearRequest n (View team many words) (Answer.Look answer) = noteOutOfTurn n
-hearRequest n (View team many words) (Answer.Refused refusal) = n
+-- How an answer is heard, by what it is. "Every refusal is passed over."
+abbrev pub hearBy : Notes → (ℕ → Notes) → (StepAnswer → Notes) → (LookAnswer → Notes) → Answer → Notes
+hearBy n standing step look (Answer.Standing number) = standing number
+hearBy n standing step look (Answer.Step answer) = step answer
+hearBy n standing step look (Answer.Look answer) = look answer
+hearBy n standing step look (Answer.Refused refusal) = n
 
--- What was heard of a call; bytes that are no answer are out of turn.
-abbrev pub hearAnswer : Notes → Call → Option Answer → Notes
-hearAnswer n (framed frame out) none = noteOutOfTurn n
-hearAnswer n (framed frame out) (some answer) = hearRequest n (requestIn frame) answer
+-- "Nothing else has a place in the order": an answer that does not fit its frame is out of turn.
+abbrev pub unfit : {A : Type 0} → Notes → A → Notes
+unfit n answer = noteOutOfTurn n
+
+abbrev pub hearRequest : Notes → Request → Answer → Notes
+hearRequest n (Open team edit) answer = hearBy n (hearOpened n team (anEdit edit)) (unfit n) (unfit n) answer
+hearRequest n (Step team) answer = hearBy n (unfit n) (hearStep n team (n .tickets team)) (unfit n) answer
+hearRequest n (Look word) answer = hearBy n (unfit n) (unfit n) (hearLook n word) answer
+hearRequest n (View team many words) answer = hearBy n (hearOpened n team (aView words)) (unfit n) (unfit n) answer
+
+-- What was heard of a frame; bytes that are no answer are out of turn.
+abbrev pub hearAnswer : Notes → Bytes → Option Answer → Notes
+hearAnswer n frame none = noteOutOfTurn n
+hearAnswer n frame (some answer) = hearRequest n (requestIn frame) answer
+
+-- What was heard of a call.
+abbrev pub hearCall : Notes → Call → Heard → Notes
+hearCall n (framed frame out) one = hearAnswer n frame (answerHeard one)
 
 unfoldable pub notesFrom : Notes → List Heard → Notes
 notesFrom n [] = n
-notesFrom n (one ∷ heard) = notesFrom (hearAnswer n (one .call) (answerHeard one)) heard
+notesFrom n (one ∷ heard) = notesFrom (hearCall n (one .call) one) heard
 
 abbrev pub notesOn : List Heard → Notes
 notesOn heard = notesFrom noNotes heard

@@ -5,7 +5,6 @@ use mathlib.Core.List.{List, [], _∷_}
 use mathlib.Core.Bool.{true, cond}
 use mathlib.Core.Option.{Option, some}
 use lib.ListN.{take, replicate}
-use Rattle.words.specs.Tests.{within}
 use Rattle.words.specs.Words.{Words, wordsInBook}
 use Rattle.tickets.specs.declared.Tickets.{Tickets}
 use Rattle.tickets.specs.Tickets.{freshTickets}
@@ -13,7 +12,7 @@ use Rattle.frames.specs.declared.Answer.{Answer}
 use Rattle.frames.specs.declared.Answer.the-variants.{Refused}
 use Rattle.frames.specs.Numbers.{Bytes, areBytes}
 use Rattle.frames.specs.Reading.{answerIn}
-use Rattle.calls.specs.Call.{callOf}
+use Rattle.calls.specs.Call.{isReturned, callOf}
 
 -- A call: a frame of any bytes, and an output of its own of any length.
 pub data Call : Type 0 where
@@ -38,9 +37,9 @@ pub record Heard : Type 0 where
   pub returned : ℕ
   pub output : Bytes
 
--- The answer that was heard, read from the bytes written; the number 1 or 2 alone is that refusal, which writes nothing. None where it is no answer.
+-- The answer that was heard, read from the bytes written; the number of a refusal that writes nothing is that refusal. None where it is no answer.
 unfoldable pub answerHeard : Heard → Option Answer
-answerHeard one = cond (within 1 2 (one .returned)) (some (Refused (one .returned))) (answerIn (take (one .returned) (one .output)))
+answerHeard one = cond (isReturned (one .returned)) (some (Refused (one .returned))) (answerIn (take (one .returned) (one .output)))
 
 abbrev pub heardOf : Shared → Call → Heard
 heardOf shared (framed frame out) =

@@ -17,7 +17,7 @@ use Rattle.frames.specs.Requests.{requestIn, lengthFits}
 use Rattle.frames.specs.Writing.{requestFrame}
 use Rattle.frames.specs.Answers.{longestAnswer}
 use Rattle.frames.proofs.Asked.{requests-read-back}
-use Rattle.calls.specs.Call.{badlyMade, refusalTests, refusalOf, Done, requestDone, refusedOr, doneOf, callOf}
+use Rattle.calls.specs.Call.{badlyMade, refusalChecks, refusalOf, Done, requestDone, refusedOr, doneOf, callOf}
 use Rattle.calls.specs.Run.{Shared, leftBy}
 use Rattle.progress.specs.Rounds.{Turn, stepCall, Stands}
 
@@ -33,7 +33,7 @@ module _ (shared : Shared) (turn : Turn) (whole : length (shared .book) ≡ word
   not-badly-made = next-test _ _ stands ∙ failed-test _ _ (ap not well)
 
   not-refused : refusalOf (shared .book) (shared .tickets) frame (turn .out) ≡ none
-  unfolding refusalOf refusalTests requestFrame someHolds allHold lengthFits
+  unfolding refusalOf refusalChecks requestFrame someHolds allHold lengthFits
   not-refused =
       rw (eq-eqb (length (shared .book)) wordsInBook whole, le-ltb (length (turn .out)) longestAnswer room, read-back, lt-ltb (turn .team) teamCount inside, not-badly-made, stands)
 
