@@ -202,7 +202,7 @@ refused-book : checkOf (0 ∷ small) 0 ≡ WrongBookLength
 unfolding everything
 refused-book = refl
 
-refused-scratch : checkOf small 1343 ≡ ScratchTooShort
+refused-scratch : checkOf small 167 ≡ ScratchTooShort
 unfolding everything
 refused-scratch = refl
 
