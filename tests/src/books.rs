@@ -3,7 +3,9 @@
 //!
 //! A case is bytes of scratch, words of the book, a number of words given (16 bits
 //! each), then so many times a word (16 bits) and its value (64); words not given
-//! are 0. Each gets a line: `yes`, `no`, `refused 1` or `refused 12`.
+//! are 0. Each gets a line: `yes`, `no`, `refused 1` or `refused 12`. The scratch is a
+//! part of a buffer full of other bytes; the program writes ` spoiled` behind a line
+//! if the check wrote elsewhere than into the first 168 bytes of that part.
 
 use crate::demand3::{Leg, Plain};
 use crate::layout::*;
