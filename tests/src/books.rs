@@ -3,7 +3,9 @@
 //!
 //! A case is bytes of scratch, words of the book, a number of words given (16 bits
 //! each), then so many times a word (16 bits) and its value (64); words not given
-//! are 0. Each gets a line: `yes`, `no`, `refused 1` or `refused 12`.
+//! are 0. Each gets a line: `yes`, `no`, `refused 1` or `refused 12`. The scratch is a
+//! part of a buffer full of other bytes; the program writes ` spoiled` behind a line
+//! if the check wrote elsewhere than into the first 168 bytes of that part.
 
 use crate::demand3::{Leg, Plain};
 use crate::layout::*;
@@ -12,8 +14,8 @@ use crate::streams::{Author, Prng};
 use crate::wrong::{self, Fault};
 use std::collections::{BTreeMap, BTreeSet};
 
-/// "a lent scratch of 1,344 bytes"
-const SCRATCH: i64 = LEGS;
+/// "The check shall give the same yes or no from 168 bytes, a bit for each leg".
+const SCRATCH: i64 = 168;
 
 /// The plain book that words tell by their links, if they tell one at all.
 fn told(book: &[Word], fault: Option<Fault>) -> Option<Plain> {
@@ -50,11 +52,11 @@ pub fn sound(book: &[Word], fault: Option<Fault>) -> bool {
         && (0..WORDS).all(|word| book[word as usize] == Word::Value(plain.word(word)))
 }
 
-/// "Checks: 12, scratch too short, after 1."
+/// "Checks: 12, scratch too short, after 1." "Refusal 12 applies below 168 bytes."
 fn answer(book: &[Word], scratch: i64, fault: Option<Fault>) -> &'static str {
     match (book.len() as i64, scratch) {
         (length, _) if length != WORDS => "refused 1",
-        (_, bytes) if bytes < SCRATCH => "refused 12",
+        (_, bytes) if bytes < wrong::scratch(fault, SCRATCH) => "refused 12",
         _ if sound(book, fault) => "yes",
         _ => "no",
     }
@@ -142,9 +144,7 @@ fn faults() -> Vec<Case> {
     let mut two = three.clone();
     two.extend(chain(9, &[20, 21]));
     let mut cases: Vec<Case> = [Words::new(), three.clone(), two.clone()].map(Case::of).into();
-    for (scratch, length) in
-        [(0, 0), (2_000, 4_095), (2_000, 4_097), (1_343, WORDS), (0, WORDS), (2_000, WORDS)]
-    {
+    for (scratch, length) in [(0, 0), (167, 4_095), (2_000, 4_095), (2_000, 4_097)] {
         cases.push(Case { scratch, length, words: Words::new() });
     }
     let mark = 1 << 63;
@@ -187,7 +187,27 @@ fn faults() -> Vec<Case> {
     let all: Vec<i64> = (1..=LEGS).rev().collect();
     cases.push(Case::of(chain(0, &all)));
     cases.push(with(&chain(0, &all), &[(link_word(1), LEGS as u64)]));
+    // The sum of the counts is right in both, each of them in the first alone.
+    let dealt = over_passages();
+    cases.push(Case::of(dealt.clone()));
+    cases.push(with(&dealt, &[(count_word(0), 43), (count_word(1), 41)]));
+    cases.extend([Words::new(), two].iter().flat_map(scratches));
     cases
+}
+
+/// All legs, dealt out to all passages, 42 to each.
+fn over_passages() -> Words {
+    let legs = |p: i64| (1..=LEGS).filter(|r| r % PASSAGES == p).collect::<Vec<i64>>();
+    (0..PASSAGES).flat_map(|p| chain(p, &legs(p))).collect()
+}
+
+/// Scratches too short, just enough, and more than enough, for a book that is sound
+/// and for one that isn't.
+fn scratches(words: &Words) -> Vec<Case> {
+    let lengths = [0, 1, 167, 168, 169, 1_343, 1_344, 2_000];
+    let unsound = with(words, &[(count_word(31), 1_344)]).words;
+    let of = |words: &Words, scratch: i64| Case { scratch, ..Case::of(words.clone()) };
+    lengths.iter().flat_map(|scratch| [of(words, *scratch), of(&unsound, *scratch)]).collect()
 }
 
 /// "a plumb leg with another compass reads as no leg, and the book check says no to

@@ -8,7 +8,7 @@ use crate::lent;
 use crate::model::{survey, Desk};
 use crate::streams::{self, Prng};
 use crate::tally::Tally;
-use crate::wrong::{self, Fault, FAULTS};
+use crate::wrong::{self, Fault, FAULTS, NOT_OF_STREAMS};
 
 /// The Add of the whole case, by any team.
 fn first_add(team: i64) -> Request {
@@ -345,6 +345,16 @@ fn other_readers_of_plumb_legs_are_told_by_readings_and_books() {
     }
 }
 
+/// "Refusal 12 applies below 168 bytes."
+#[test]
+fn other_scratches_are_told_by_books() {
+    let stored = books::stored();
+    let right = books::answered(&stored, None).unwrap();
+    for fault in [Fault::ScratchOf1344, Fault::ScratchOf169, Fault::ScratchOf167] {
+        assert_ne!(books::answered(&stored, Some(fault)).unwrap(), right, "{fault:?}");
+    }
+}
+
 /// Two passages with a leg each, two tickets that move them across.
 pub fn opposite_moves(p: i64, q: i64) -> Vec<u8> {
     let mut frames = Vec::new();
@@ -474,10 +484,10 @@ fn demand_three_tells_wrong_programs_apart() {
         // A Strike of f = r only waits, for itself. "A step that says Waiting while
         // the word is free: only demand 2's step rule stops it, as demand 3 holds for
         // it", but it names a holder that the word hasn't.
-        // Refusals are passed over, and no list of calls reads a leg.
-        let kept = [Fault::StrikesItself, Fault::Late, Fault::SixteenNamed].contains(&fault)
+        // Refusals are passed over.
+        let kept = [Fault::StrikesItself, Fault::Late].contains(&fault)
             || [Fault::PlumbRangeSkipped, Fault::PlumbRefused].contains(&fault)
-            || [Fault::PlumbReads, Fault::PlumbUnread].contains(&fault);
+            || NOT_OF_STREAMS.contains(&fault);
         assert_eq!(noticed, !kept, "{name}");
     }
 }
@@ -575,8 +585,8 @@ fn the_stored_stream_tells_wrong_programs_apart() {
     let input = streams::stored();
     let right = survey(&input);
     for (name, fault) in FAULTS {
-        let same = [Fault::Late, Fault::SixteenNamed, Fault::PlumbReads, Fault::PlumbUnread];
-        assert_eq!(answers(fault, &input) == right, same.contains(&fault), "{name}");
+        let same = fault == Fault::Late || NOT_OF_STREAMS.contains(&fault);
+        assert_eq!(answers(fault, &input) == right, same, "{name}");
     }
 }
 

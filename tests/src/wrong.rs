@@ -61,9 +61,15 @@ pub enum Fault {
     PlumbReads,
     /// A plumb leg reads as no leg.
     PlumbUnread,
+    /// The check wants a byte for each leg.
+    ScratchOf1344,
+    /// The check wants a byte more than it needs.
+    ScratchOf169,
+    /// The check takes a byte less than it needs.
+    ScratchOf167,
 }
 
-pub const FAULTS: [(&str, Fault); 27] = [
+pub const FAULTS: [(&str, Fault); 30] = [
     ("waiting-when-free", Fault::WaitingWhenFree),
     ("gives-back-new", Fault::GivesBackNew),
     ("listing-order", Fault::ListingOrder),
@@ -91,6 +97,21 @@ pub const FAULTS: [(&str, Fault); 27] = [
     ("plumb-refused", Fault::PlumbRefused),
     ("plumb-reads", Fault::PlumbReads),
     ("plumb-unread", Fault::PlumbUnread),
+    ("scratch-1344", Fault::ScratchOf1344),
+    ("scratch-169", Fault::ScratchOf169),
+    ("scratch-167", Fault::ScratchOf167),
+];
+
+/// Faults that no stream can tell: of marks that only lent books have, of readings and
+/// of the check.
+#[cfg(test)]
+pub const NOT_OF_STREAMS: [Fault; 6] = [
+    Fault::SixteenNamed,
+    Fault::PlumbReads,
+    Fault::PlumbUnread,
+    Fault::ScratchOf1344,
+    Fault::ScratchOf169,
+    Fault::ScratchOf167,
 ];
 
 pub fn named(name: &str) -> Option<Fault> {
@@ -203,6 +224,16 @@ pub fn read(fault: Option<Fault>, place: u64, measure: u64) -> Option<Reading> {
         Some(Fault::PlumbReads) => reading(place, without_plumb_compass(measure)),
         Some(Fault::PlumbUnread) => reading(place, measure).filter(|leg| !leg.measure.plumb()),
         _ => reading(place, measure),
+    }
+}
+
+/// The bytes of scratch that a check with this fault wants.
+pub fn scratch(fault: Option<Fault>, right: i64) -> i64 {
+    match fault {
+        Some(Fault::ScratchOf1344) => 1_344,
+        Some(Fault::ScratchOf169) => 169,
+        Some(Fault::ScratchOf167) => 167,
+        _ => right,
     }
 }
 

@@ -1,6 +1,8 @@
 // Books from standard input, each checked: a line for each on standard output. A case is three numbers of 16 bits (the bytes
 // of its scratch, the words of its book, how many words are given), then each word given, 16 bits, with its value, 64 bits.
 // Every number has its low byte first. A word not given is 0, and what comes behind the last whole case is passed over.
+// The scratch is a part of a larger buffer, which is full of other bytes: if one changed that is not the check's to write,
+// the line ends with ` spoiled`.
 ghost use Prim.Native.Nat.{_+_, _≤_, _<_};
 ghost use lib.ListN.{length};
 use frames::numbers::Bits;
@@ -8,6 +10,7 @@ use frames::numbers::read16;
 use frames::numbers::read32;
 use libc::STDIN_FILENO;
 use libc::STDOUT_FILENO;
+use sound::Scratch;
 use soundness::Checked;
 use words::Limits;
 
@@ -18,8 +21,22 @@ impl Room {
 
     // For one word more than a book has.
     const WORDS: usize = Limits::WORDS + 1;
+}
 
-    const SCRATCH: usize = 2000;
+// The buffer of which a part is lent: the bytes before that part, its bytes at most, and some behind them.
+struct Sector {}
+
+impl Sector {
+    const BEFORE: usize = 64;
+
+    const MOST_LENT: usize = 2000;
+
+    const BYTES: usize = Sector::BEFORE + Sector::MOST_LENT + Sector::BEFORE;
+
+    // What it is full of, in turn from case to case.
+    const ONES: u8 = 255;
+
+    const MIXED: u8 = 165;
 }
 
 // The bytes of a case: those before the words given, and those of each word given.
@@ -90,45 +107,94 @@ fn set_words(book: &mut [u64], given: &[u8]) {
     }
 }
 
-fn line(bytes: &[u8]) {
+fn text(bytes: &[u8]) {
     io::write_all(STDOUT_FILENO, bytes);
 }
 
 fn tell(answer: Checked) {
     match answer {
-        Checked::Yes => line(b"yes\n"),
-        Checked::No => line(b"no\n"),
-        Checked::WrongBookLength => line(b"refused 1\n"),
-        Checked::ScratchTooShort => line(b"refused 12\n"),
+        Checked::Yes => text(b"yes"),
+        Checked::No => text(b"no"),
+        Checked::WrongBookLength => text(b"refused 1"),
+        Checked::ScratchTooShort => text(b"refused 12"),
     }
 }
 
-// The scratch keeps what the case before left in it: the check must not read that.
-fn check_book(book: &mut [u64], scratch: &mut [u8], given: &[u8]) {
-    clear(book);
-    set_words(book, given);
+fn tell_end(spoiled: bool) {
+    if spoiled {
+        text(b" spoiled\n");
+        return;
+    }
+    text(b"\n");
+}
+
+fn fill(sector: &mut [u8], filling: u8) {
+    let mut i: usize = 0;
+    while i < sector.len() {
+        sector[i] = filling;
+        i += 1;
+    }
+}
+
+fn is_full(part: &[u8], filling: u8) -> bool {
+    let mut i: usize = 0;
+    while i < part.len() {
+        if part[i] != filling {
+            return false;
+        }
+        i += 1;
+    }
+    true
+}
+
+fn at_most(number: usize, most: usize) -> usize
+    ensures { λ r. ⌜ r ≤ most ⌝ }
+{
+    if most < number {
+        return most;
+    }
+    number
+}
+
+// Whether a byte changed before the part lent, or behind those of its first bytes that the check may write.
+fn is_spoiled(sector: &[u8], lent: usize, filling: u8) -> bool
+    requires { ⌜ 64 + lent ≤ length (now sector) ⌝ }
+{
+    let before = is_full(&sector[0..Sector::BEFORE], filling);
+    let written = at_most(Scratch::BYTES, lent);
+    let behind = is_full(&sector[Sector::BEFORE + written..], filling);
+    if before {
+        return !behind;
+    }
+    true
+}
+
+fn check_in(book: &[u64], sector: &mut [u8], lent: usize)
+    requires { ⌜ 64 + lent ≤ length (now sector) ⌝ }
+{
+    let scratch = &mut sector[Sector::BEFORE..Sector::BEFORE + lent];
     let answer = sound::check(book, scratch);
     tell(answer);
 }
 
-fn at_most(number: u16, most: usize) -> usize
-    ensures { λ r. ⌜ r ≤ most ⌝ }
+fn check_book(book: &[u64], sector: &mut [u8], lent: usize, filling: u8)
+    requires { ⌜ 64 + lent ≤ length (now sector) ⌝ }
 {
-    let wanted = number as usize;
-    if most < wanted {
-        return most;
-    }
-    wanted
+    fill(sector, filling);
+    check_in(book, sector, lent);
+    let spoiled = is_spoiled(sector, lent, filling);
+    tell_end(spoiled);
 }
 
-fn check_case(words: &mut [u64], bytes: &mut [u8], case: &[u8])
-    requires { ⌜ (4097 ≤ length (now words)) × (2000 ≤ length (now bytes)) × (6 ≤ length (now case)) ⌝ }
+fn check_case(words: &mut [u64], sector: &mut [u8], case: &[u8], filling: u8)
+    requires { ⌜ (4097 ≤ length (now words)) × (64 + 2000 ≤ length (now sector)) × (6 ≤ length (now case)) ⌝ }
 {
-    let scratch_bytes = at_most(read16(case, 0), Room::SCRATCH);
-    let book_words = at_most(read16(case, 2), Room::WORDS);
+    let lent = at_most(read16(case, 0) as usize, Sector::MOST_LENT);
+    let book_words = at_most(read16(case, 2) as usize, Room::WORDS);
     let book = &mut words[0..book_words];
-    let scratch = &mut bytes[0..scratch_bytes];
-    check_book(book, scratch, &case[Case::HEAD..]);
+    clear(book);
+    set_words(book, &case[Case::HEAD..]);
+    check_book(book, sector, lent, filling);
 }
 
 // How many bytes the first case has; 0 where it isn't whole.
@@ -149,8 +215,9 @@ fn first_case(rest: &[u8]) -> usize
 // Checks the first case; how many bytes it has.
 fn check_first(
     words: &mut [u64; Room::WORDS],
-    bytes: &mut [u8; Room::SCRATCH],
+    sector: &mut [u8; Sector::BYTES],
     rest: &[u8],
+    filling: u8,
 ) -> usize
     ensures { λ r. ⌜ r ≤ length (now (rest .entry)) ⌝ }
 {
@@ -158,38 +225,52 @@ fn check_first(
     if count < Case::HEAD {
         return 0;
     }
-    check_case(words, bytes, &rest[0..count]);
+    check_case(words, sector, &rest[0..count], filling);
     count
 }
 
-fn check_cases(words: &mut [u64; Room::WORDS], bytes: &mut [u8; Room::SCRATCH], input: &[u8]) {
+fn next_filling(filling: u8) -> u8 {
+    if filling == Sector::ONES {
+        Sector::MIXED
+    } else {
+        Sector::ONES
+    }
+}
+
+fn check_cases(words: &mut [u64; Room::WORDS], sector: &mut [u8; Sector::BYTES], input: &[u8]) {
     let mut at: usize = 0;
+    let mut filling = Sector::ONES;
     while at < input.len() {
-        let count = check_first(words, bytes, &input[at..]);
+        let count = check_first(words, sector, &input[at..], filling);
         if count == 0 {
             return;
         }
         at += count;
+        filling = next_filling(filling);
     }
 }
 
-fn check_input(buffer: &mut [u8], words: &mut [u64; Room::WORDS], bytes: &mut [u8; Room::SCRATCH]) {
+fn check_input(
+    buffer: &mut [u8],
+    words: &mut [u64; Room::WORDS],
+    sector: &mut [u8; Sector::BYTES],
+) {
     let have = read_all(buffer);
-    check_cases(words, bytes, &buffer[0..have]);
+    check_cases(words, sector, &buffer[0..have]);
 }
 
 // Takes the buffer as an array, so that the length of a million zeros is known by their type and is not counted.
 fn check_with(
     buffer: &mut [u8; Room::INPUT],
     words: &mut [u64; Room::WORDS],
-    bytes: &mut [u8; Room::SCRATCH],
+    sector: &mut [u8; Sector::BYTES],
 ) {
-    check_input(buffer, words, bytes);
+    check_input(buffer, words, sector);
 }
 
 fn main() {
     let mut buffer = [0u8; Room::INPUT];
     let mut words = [0u64; Room::WORDS];
-    let mut bytes = [0u8; Room::SCRATCH];
-    check_with(&mut buffer, &mut words, &mut bytes);
+    let mut sector = [0u8; Sector::BYTES];
+    check_with(&mut buffer, &mut words, &mut sector);
 }

@@ -22,12 +22,8 @@ use Rattle.plain.proofs.OneList.{atLeg, Every, times-there}
 use Rattle.plain.proofs.Slots.{placeAt, measureAt, InRange}
 use Rattle.plain.proofs.Lists.{in-range}
 use Rattle.soundness.specs.Checking.{isOfPassage, mayFollow, walk, walkPassage}
-use Rattle.soundness.proofs.Walking.{number-in, Following, following, walk-on, walk-off, walk-ends, passage-walk, passage-off}
+use Rattle.soundness.proofs.Walking.{none-some, number-in, Following, following, walk-on, walk-off, walk-ends, passage-walk, passage-off}
 use Rattle.soundness.proofs.Counting.{once, once-more}
-
--- Nothing is none and some legs.
-pub none-some : {A : Type 0} (x : A) → none ≡ some x → ⊥
-none-some x e = let z : _≡_ {A = ℕ} 0 1 = cc in omega arith
 
 -- The leg that stands in the words of a number, and the legs along the links.
 abbrev legAt : Words → ℕ → NumberedLeg

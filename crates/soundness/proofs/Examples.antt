@@ -15,8 +15,8 @@ use Rattle.legs.specs.Legs.{placeInRange, measureInRange}
 use Rattle.legs.specs.Reading.{isPlace, isMeasure, readingOf}
 use Rattle.soundness.specs.declared.Checked.{Checked}
 use Rattle.soundness.specs.declared.Checked.the-variants.{Yes, No, WrongBookLength, ScratchTooShort}
-use Rattle.soundness.specs.Checking.{mayFollow, walk, walkPassage, walkBelow, usedOrZero, restZero, isSound}
-use Rattle.soundness.specs.Answering.{checkOf, refusalNumber}
+use Rattle.soundness.specs.Checking.{mayFollow, walk, walkPassage, walkBelow, usedOrZero, restZero, onesUpTo, isSound}
+use Rattle.soundness.specs.Answering.{scratchBytes, checkOf, refusalNumber}
 use Rattle.soundness.proofs.Walking.{rest-next, rest-off, used-leg, unused-leg, sound-off, sound-by}
 use Rattle.soundness.proofs.Answering.{says-yes, says-no}
 
@@ -52,9 +52,9 @@ module _ (first : Words) (m : ℕ) (used : List ℕ) where
 
   zeros-after : (k n : ℕ) → k + n ≡ lastLeg → length (first ++ replicate m 0) ≡ wordsInBook → length first ≤ linkWord (k + 1)
       → walkBelow (first ++ replicate m 0) passageCount ≡ some used → restZero (first ++ replicate m 0) used k ≡ true
-      → checkOf (first ++ replicate m 0) lastLeg ≡ Yes
+      → checkOf (first ++ replicate m 0) scratchBytes ≡ Yes
   zeros-after k n legs whole h walked computed =
-      says-yes _ lastLeg whole (omega arith)
+      says-yes _ scratchBytes whole (omega arith)
       (sound-by _ used walked ∙ subst (λ (all : ℕ). restZero (first ++ replicate m 0) used all ≡ true) legs (rest-there k n h computed))
 
 -- The measure of every leg here: 5,000 mm, 90.00°, −1.50°.
@@ -75,7 +75,7 @@ abbrev wrong : ℕ → ℕ → Words
 wrong word value = set small word value
 
 abbrev checked : Words → Checked
-checked words = checkOf words lastLeg
+checked words = checkOf words scratchBytes
 
 -- The walks, in order: leg 3, leg 1, leg 2.
 small-walked : walkBelow small passageCount ≡ some (2 ∷ 1 ∷ 3 ∷ [])
@@ -106,10 +106,10 @@ whole-case-yes = zeros-after alone 4029 (1 ∷ []) 1 1343 refl refl (omega arith
 
 -- A walk that breaks off is a no, and so is an unused leg that isn't zero.
 walk-no : (words : Words) → length words ≡ wordsInBook → walkBelow words passageCount ≡ none → checked words ≡ No
-walk-no words whole broken = says-no words lastLeg whole (omega arith) (sound-off words broken)
+walk-no words whole broken = says-no words scratchBytes whole (omega arith) (sound-off words broken)
 
 rest-no : (words : Words) (used : List ℕ) (n : ℕ) → length words ≡ wordsInBook → n ≤ lastLeg → walkBelow words passageCount ≡ some used → restZero words used n ≡ false → checked words ≡ No
-rest-no words used n whole most walked other = says-no words lastLeg whole (omega arith) (sound-by words used walked ∙ rest-off words used n lastLeg most other)
+rest-no words used n whole most walked other = says-no words scratchBytes whole (omega arith) (sound-by words used walked ∙ rest-off words used n lastLeg most other)
 
 -- A shaft alone in its book, with a measure of its own: straight down, 5,000 mm, and the same with compass 500.
 abbrev shaftFront : ℕ → Words
@@ -202,9 +202,18 @@ refused-book : checkOf (0 ∷ small) 0 ≡ WrongBookLength
 unfolding everything
 refused-book = refl
 
-refused-scratch : checkOf small 1343 ≡ ScratchTooShort
+refused-scratch : checkOf small 167 ≡ ScratchTooShort
 unfolding everything
 refused-scratch = refl
 
 numbers : (refusalNumber WrongBookLength ≡ some 1) × (refusalNumber ScratchTooShort ≡ some 12)
 numbers = (refl, refl)
+
+-- "A bit for each leg": the ones of legs 2, 1 and 3 are three; a leg that came twice is one.
+three-ones : onesUpTo (2 ∷ 1 ∷ 3 ∷ []) 8 ≡ 3
+unfolding onesUpTo
+three-ones = refl
+
+one-twice : onesUpTo (5 ∷ 5 ∷ []) 8 ≡ 1
+unfolding onesUpTo
+one-twice = refl

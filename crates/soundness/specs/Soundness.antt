@@ -13,7 +13,7 @@ use Rattle.calls.specs.Run.{Call, OfBytes}
 use Rattle.calls.specs.Order.{HeldBy}
 use Rattle.calls.specs.Linearizable.{Every, heardOn, bookAfter}
 use Rattle.soundness.specs.declared.Checked.the-variants.{Yes, No}
-use Rattle.soundness.specs.Answering.{checkOf}
+use Rattle.soundness.specs.Answering.{scratchBytes, checkOf}
 
 -- The words are those of some plain book that keeps its rules.
 abbrev pub OfSomePlainBook : Words → Type 0
@@ -23,13 +23,13 @@ OfSomePlainBook words = (plain : Plain) × Sound plain × ((word : ℕ) → word
 abbrev pub YesExactlyToPlainBooks : Type 0
 YesExactlyToPlainBooks =
     (words : Words) (room : ℕ)
-    → (checkOf words room ≡ Yes) ↔ ((length words ≡ wordsInBook) × (lastLeg ≤ room) × OfSomePlainBook words)
+    → (checkOf words room ≡ Yes) ↔ ((length words ≡ wordsInBook) × (scratchBytes ≤ room) × OfSomePlainBook words)
 
 -- Statement: "a plumb leg with another compass reads as no leg, and the book check says no to it", whichever leg it is and whatever else the book holds.
 abbrev pub PlumbCompassIsUnsound : Type 0
 PlumbCompassIsUnsound =
     (words : Words) (room leg distance compass : ℕ) (clino : ℤ)
-    → length words ≡ wordsInBook → lastLeg ≤ room → 1 ≤ leg → leg ≤ lastLeg
+    → length words ≡ wordsInBook → scratchBytes ≤ room → 1 ≤ leg → leg ≤ lastLeg
     → distance < compassUnit → compass < clinoUnit / compassUnit → isPlumb clino ≡ true → compass ≢ 0
     → readOf words (measureWord leg) ≡ distance + compassUnit * compass + clinoUnit * clinoOffset clino
     → checkOf words room ≡ No
@@ -42,5 +42,5 @@ NothingHeld calls = (team word : ℕ) → ¬ HeldBy (heardOn calls) team word
 abbrev pub UnheldBooksAreSound : Type 0
 UnheldBooksAreSound =
     (calls : List Call) → Every OfBytes calls → NothingHeld calls
-    → (room : ℕ) → lastLeg ≤ room
+    → (room : ℕ) → scratchBytes ≤ room
     → checkOf (bookAfter calls) room ≡ Yes

@@ -6,10 +6,10 @@ use Rattle.books.proofs.check_cases.Statement.{statement}
 use Rattle.books.proofs.check_cases.Tie as tie
 
 abbrev Inv-loop : tie.InvT-loop
-Inv-loop words₀ bytes₀ input at₀ words bytes at = at ≤ length input
+Inv-loop words₀ sector₀ input at₀ filling₀ words sector at filling = at ≤ length input
 
 abbrev μ-loop : tie.MeasureT-loop
-μ-loop words₀ bytes₀ input at₀ words bytes at = length input - at
+μ-loop words₀ sector₀ input at₀ filling₀ words sector at filling = length input - at
 
 loop-holds : tie.Need-loop-holds Inv-loop μ-loop
 loop-holds c = search needs
@@ -31,6 +31,9 @@ returns c = search needs
 
 add-at : tie.Need-add-at Inv-loop μ-loop
 add-at c = search needs
+
+next-filling-requires : tie.Need-next-filling-requires Inv-loop μ-loop
+next-filling-requires c κs = search needs
 
 loop-less : tie.Need-loop-less Inv-loop μ-loop
 loop-less c = search needs
@@ -54,6 +57,7 @@ check-cases-spec =
     check-first-requires
     returns
     add-at
+    next-filling-requires
     loop-less
     loop-again
     returns-2)
