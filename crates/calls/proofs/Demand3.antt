@@ -132,7 +132,7 @@ calls-keep (framed frame out ∷ calls) bytes shared n table good =
         (left-kept shared n table good frame out (bytes .0))
 
 -- The table stays one as the code has it.
-tables-run : (calls : List Call) (shared : Shared) → TableFits (shared .tickets) → TableFits (runFrom shared calls .end .tickets)
+pub tables-run : (calls : List Call) (shared : Shared) → TableFits (shared .tickets) → TableFits (runFrom shared calls .end .tickets)
 unfolding runFrom
 tables-run [] shared table = table
 tables-run (framed frame out ∷ calls) shared table = tables-run calls (leftBy shared (framed frame out)) (tables-stay (shared .book) (shared .tickets) frame out table)

@@ -32,3 +32,4 @@ mod ExamplesContended
 pub mod ExamplesMoves
 mod ExamplesPieces
 mod ExamplesViews
+mod ExamplesHeard

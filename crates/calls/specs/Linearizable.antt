@@ -15,7 +15,7 @@ use Rattle.edits.specs.Opened.{storedTargets}
 use Rattle.plain.specs.Plain.{Plain, freshPlain, wordOf, legsInBook, Sound}
 use Rattle.plain.specs.Editing.{succeeds, attempt, addsIn, strikesIn}
 use Rattle.calls.specs.Call.{bookLengthWrong, badlyMade}
-use Rattle.calls.specs.Run.{Call, OfBytes, Heard, run}
+use Rattle.calls.specs.Run.{Call, OfBytes, Heard, Run, run}
 use Rattle.calls.specs.Order.{Verdict, granted, stale, Event, decided, looked, seen, reserved, Asked, anEdit, aView, countAsked, Decision, Noted, Last, wasGranted, wasStale, wasSeen, Ended, order, ended, notesOn, HeldBy}
 
 -- What the plain book is fed: an edit to try, a word to look at, or words to see together. Neither a verdict nor a value that was heard.
@@ -161,43 +161,43 @@ plainAfter calls = play (orderOf calls)
 abbrev pub bookAfter : List Call → Words
 bookAfter calls = run calls .end .book
 
--- Of a list of calls: the order of what was heard is one of whole edits, looks and views, done one after another on the plain book.
-pub record Linearizable (calls : List Call) : Type 0 where
+-- Of a run, what was heard and what it left: the order of what was heard is one of whole edits, looks and views, done one after another on the plain book.
+pub record Linearizable (result : Run) : Type 0 where
   -- Every ticket decided as granted succeeds on the plain book at its turn, and every one decided as stale doesn't.
   pub granted-succeed : (before after : List Event) (verdict : Verdict) (edit : Edit)
-      → orderOf calls ≡ before ++ (decided verdict edit ∷ after)
+      → order (result .heard) ≡ before ++ (decided verdict edit ∷ after)
       → verdict ≡ verdictOf (play before) edit
   -- Every value looked at is the plain book's word at that turn.
   pub looks-agree : (before after : List Event) (word value : ℕ)
-      → orderOf calls ≡ before ++ (looked word value ∷ after)
+      → order (result .heard) ≡ before ++ (looked word value ∷ after)
       → value ≡ wordOf (play before) word
   -- Every finished view shows the plain book's words at its turn, which is that of its last claim.
   pub views-agree : (before after : List Event) (words values : List ℕ)
-      → orderOf calls ≡ before ++ (seen words values ∷ after)
+      → order (result .heard) ≡ before ++ (seen words values ∷ after)
       → values ≡ map (wordOf (play before)) words
   -- Every word that no ticket holds is the plain book's.
   pub words-agree : (word : ℕ)
       → word < wordsInBook
-      → ((team : ℕ) → ¬ HeldBy (heardOn calls) team word)
-      → readOf (bookAfter calls) word ≡ wordOf (plainAfter calls) word
+      → ((team : ℕ) → ¬ HeldBy (result .heard) team word)
+      → readOf (result .end .book) word ≡ wordOf (play (order (result .heard))) word
   -- A ticket's last answer, once it has come, is Granted if its edit succeeded and Stale if not, a view's the values; no ticket is decided twice or ends undecided.
-  pub last-answers : Every EndedRight (ended (heardOn calls))
+  pub last-answers : Every EndedRight (ended (result .heard))
   -- A ticket still standing is decided at most once, and Found named the word that differed; a view never is.
-  pub decided-once : (team : ℕ) → StandingRight (notesOn (heardOn calls) .tickets team)
+  pub decided-once : (team : ℕ) → StandingRight (notesOn (result .heard) .tickets team)
   -- The counts of all passages sum to granted adds less granted strikes.
-  pub counts-add-up : legsInBook (plainAfter calls) + grantedOf strikesIn (orderOf calls) ≡ grantedOf addsIn (orderOf calls)
+  pub counts-add-up : legsInBook (play (order (result .heard))) + grantedOf strikesIn (order (result .heard)) ≡ grantedOf addsIn (order (result .heard))
   -- A word that a ticket holds is its team's mark, so that no word too many is taken for held.
-  pub held-marked : (team word : ℕ) → HeldBy (heardOn calls) team word → readOf (bookAfter calls) word ≡ markOf team
+  pub held-marked : (team word : ℕ) → HeldBy (result .heard) team word → readOf (result .end .book) word ≡ markOf team
   -- The plain book keeps its rules: all in range, from other than to, no number twice.
-  pub plain-sound : Sound (plainAfter calls)
+  pub plain-sound : Sound (play (order (result .heard)))
   -- The book stays whole and every team's ticket well made, so that refusals 1 and 7 never come.
-  pub stays-whole : bookLengthWrong (bookAfter calls) ≡ false
-  pub stays-well-made : (team : ℕ) → badlyMade (ticketOf (run calls .end .tickets) team) ≡ false
+  pub stays-whole : bookLengthWrong (result .end .book) ≡ false
+  pub stays-well-made : (team : ℕ) → badlyMade (ticketOf (result .end .tickets) team) ≡ false
   -- A last answer's tries are the steps answered; a granted ticket's are 2n plus its waits.
-  pub tries-add-up : Every TriesRight (ended (heardOn calls))
+  pub tries-add-up : Every TriesRight (ended (result .heard))
   -- Every call was answered by an answer that fits its frame, no Standing came over a ticket and no step's answer without one.
-  pub in-turn : notesOn (heardOn calls) .outOfTurn ≡ 0
+  pub in-turn : notesOn (result .heard) .outOfTurn ≡ 0
 
 -- Statement: "It is a single claim about the list, not one for each call."
 abbrev pub Demand3 : Type 0
-Demand3 = (calls : List Call) → Every OfBytes calls → Linearizable calls
+Demand3 = (calls : List Call) → Every OfBytes calls → Linearizable (run calls)

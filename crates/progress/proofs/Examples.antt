@@ -71,7 +71,7 @@ two-rounds = let end = run two .end in (
 
 two-done : NoneStands (afterRounds (run two .end) rounds .tickets)
 unfolding everyRun targetsBelow areBytes
-two-done = every-ticket-gets-done two (refl, (refl, tt)) rounds two-rounds refl
+two-done = every-ticket-gets-done two (refl, (refl, tt)) rounds two-rounds (omega (arith, two-targets))
 
 -- So many rounds, each of them that of `turnsBelow`.
 abbrev playedOn : ℕ → Shared → Shared
