@@ -25,11 +25,5 @@ pub mod Demand3
 pub mod Holding
 pub mod Computing
 pub mod BenchTable
-mod RefusalExamples
 pub mod ExampleCalls
-mod ExamplesWholeCase
-mod ExamplesContended
-pub mod ExamplesMoves
-mod ExamplesPieces
-mod ExamplesViews
-mod ExamplesHeard
+mod OutOfTurn

@@ -14,10 +14,10 @@ use Rattle.frames.specs.Numbers.{areBytes}
 use Rattle.frames.specs.Answers.{longestAnswer}
 use Rattle.calls.specs.Run.{Call, Shared, run}
 use Rattle.calls.proofs.ExampleCalls.{everyRun, calls}
-use Rattle.calls.proofs.ExamplesMoves.{moveFirst, moveSecond, setting}
+use Rattle.examples.proofs.ExamplesMoves.{moveFirst, moveSecond, setting}
 use Rattle.progress.specs.Rounds.{Turn, turnsBelow, afterRound, afterRounds, RoundsFrom, targetsBelow, targetsStanding, NoneStands}
 use Rattle.progress.proofs.Existing.{there-is-a-round}
 use Rattle.progress.proofs.Done.{every-ticket-gets-done}
 
 -- The teams below n that have a ticket.
 abbrev standingBelow : ℕ → Tickets → List ℕ

@@ -1,55 +1,23 @@
--- Heard by hand: what no book answers.
+-- Short outputs and two views at once, heard; and runs of wrong programs.
 use Prim.Native.Nat.{ℕ, _^_}
 use native.Mathlib.Omega.{arith}
 use mathlib.Core.Path.{_≡_, refl, ap}
-use mathlib.Core.Bool.{true, false}
 use mathlib.Core.List.{List, [], _∷_, _++_, map}
-use mathlib.Core.Option.{Option, none, some}
-use lib.ListN.{length, replicate}
-use Rattle.tickets.specs.declared.StepAnswer.the-variants.{Claimed, Waiting, Put, Returned, Granted, Seen, Stale, Found}
-use Rattle.tickets.specs.declared.LookAnswer.the-variants.{Value}
-use Rattle.frames.specs.declared.Answer.{Answer}
-use Rattle.frames.specs.declared.Answer.the-variants as Answer
-use Rattle.frames.specs.Request.{Request, Open, Step, Look, View}
-use Rattle.frames.specs.Answers.{answerFrame}
-use Rattle.frames.specs.Writing.{requestFrame}
+use mathlib.Core.Option.{some}
+use lib.ListN.{replicate}
 use Rattle.words.specs.Words.{Words}
 use Rattle.tickets.specs.declared.StepAnswer.{StepAnswer}
+use Rattle.tickets.specs.declared.StepAnswer.the-variants.{Claimed, Stale}
+use Rattle.tickets.specs.declared.LookAnswer.the-variants.{Value}
 use Rattle.tickets.specs.Tickets.{freshTickets}
 use Rattle.edits.specs.declared.Edit.{Edit}
-use Rattle.calls.specs.Run.{Call, framed, Heard, Run, answerHeard}
-use Rattle.calls.specs.Order.{Verdict, granted, stale, Event, decided, looked, seen, notesOn, order, holds}
+use Rattle.frames.specs.declared.Answer.the-variants as Answer
+use Rattle.frames.specs.Request.{Request, Open, Step, Look, View}
+use Rattle.calls.specs.Run.{Call, framed, Run, answerHeard}
+use Rattle.calls.specs.Order.{Verdict, granted, stale, looked, seen}
 use Rattle.calls.specs.Linearizable.{Linearizable, heardOn, orderOf}
 use Rattle.calls.specs.Bench.{thatMeasure, firstLeg, addFrame, stepFrame}
-use Rattle.calls.proofs.ExampleCalls.{everyRun, calls, steps}
-
-abbrev heardAs : Request → Answer → Heard
-heardAs request answer = record { call = framed (requestFrame request) []; returned = length (answerFrame answer); output = answerFrame answer }
-
-abbrev turned : List Heard → ℕ
-turned heard = notesOn heard .outOfTurn
-
--- A step's answer without a ticket; Standing with another number, and over a ticket; an answer of another kind; no answer; Seen and Put where they can't be.
-out-of-turn :
-    turned (heardAs (Step 0) (Answer.Step (Claimed 1)) ∷ [])
-    ∷ turned (heardAs (Open 0 (firstLeg 1 0 thatMeasure)) (Answer.Standing 4) ∷ [])
-    ∷ turned (heardAs (Open 0 (firstLeg 1 0 thatMeasure)) (Answer.Standing 5) ∷ heardAs (Open 0 (firstLeg 1 0 thatMeasure)) (Answer.Standing 5) ∷ [])
-    ∷ turned (heardAs (Look 0) (Answer.Standing 1) ∷ [])
-    ∷ turned (record { call = framed (requestFrame (Look 0)) []; returned = 3; output = 0 ∷ 0 ∷ 0 ∷ [] } ∷ [])
-    ∷ turned (heardAs (View 0 1 (0 ∷ [])) (Answer.Standing 1) ∷ heardAs (Step 0) (Answer.Step (Put 1)) ∷ [])
-    ∷ []
-    ≡ 1 ∷ 1 ∷ 1 ∷ 1 ∷ 1 ∷ 1 ∷ []
-unfolding everyRun
-out-of-turn = refl
-
--- Granted for a view is not counted, whatever the comment says; nor is Put while an edit claims.
-not-counted :
-    turned (heardAs (View 0 1 (0 ∷ [])) (Answer.Standing 1) ∷ heardAs (Step 0) (Answer.Step (Granted 1)) ∷ [])
-    ∷ turned (heardAs (Open 0 (firstLeg 1 0 thatMeasure)) (Answer.Standing 5) ∷ heardAs (Step 0) (Answer.Step (Put 3)) ∷ [])
-    ∷ []
-    ≡ 0 ∷ 0 ∷ []
-unfolding everyRun
-not-counted = refl
+use Rattle.calls.proofs.ExampleCalls.{everyRun, calls, steps, heardAs}
 
 -- A short output, in a list: refusal 2 is heard and passed over.
 abbrev short : List Call
