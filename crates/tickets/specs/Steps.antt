@@ -163,7 +163,7 @@ viewGivenBack ticket =
     (stepped noTicket (Seen (valuesSeen ticket)))
     (stepped (advanced ticket Viewed (ticket .claimed) more) (Returned more))
 
--- The ticket and the answer after the swap, by the phase and the word found. (No ticket takes no step: its case makes the definition total.)
+-- The ticket and the answer after the swap, by the phase and the word found. (No ticket takes no step: its case makes the definition total, and leaves the slot as it is.)
 abbrev pub settledIn : Phase → Ticket → ℕ → Stepped
 settledIn Claiming ticket found =
     cond (eqb found (targetAt ticket (ticket .claimed) .quoted)) (claimed ticket)
@@ -173,7 +173,7 @@ settledIn Putting ticket found = put ticket
 settledIn GivingBack ticket found = givenBack ticket
 settledIn Viewing ticket found = cond (isHeld found) (viewWaited ticket found) (viewClaimed ticket found)
 settledIn Viewed ticket found = viewGivenBack ticket
-settledIn NoTicket ticket found = givenBack ticket
+settledIn NoTicket ticket found = stepped ticket (Returned (ticket .done))
 
 unfoldable pub settled : Ticket → ℕ → Stepped
 settled ticket found = settledIn (ticket .phase) ticket found
