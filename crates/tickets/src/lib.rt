@@ -9,7 +9,7 @@ ghost use Rattle.words.specs.Words.{Words, wordsInBook, teamCount, mostTargets,
 ghost use Rattle.tickets.specs.declared.Phase.the-variants.{Claiming, Putting, Viewing, Viewed};
 ghost use Rattle.tickets.specs.Tickets.{noTicket, freshTickets, targetAt, targetsIn, wordsIn, namedIn, hasTicket, isView, targetWellMade, countsWellMade, viewWellMade, wellMade};
 ghost use Rattle.tickets.specs.Steps.{tries, oneMoreTry, advanced, swapTried, stepped, claimed, put, givenBack, settledIn, settled, noting, viewClaimed, valueNoted, valueNamed, valuesSeen, viewGivenBack, asStep, finishes, afterAnswer, AnswerFits, stepOf, lookOf};
-ghost use Rattle.tickets.specs.Going.{isClaiming, isPutting, isEdit, nextOf, endOf, goesOn, wentOn};
+ghost use Rattle.tickets.specs.Going.{isClaiming, isPutting, isEdit, nextOf, endOf, continues, wentOn};
 use words::Limits;
 
 // A word, the value that the edit quotes for it (in the source document: expected) and its new value (desired).
@@ -522,7 +522,7 @@ impl Ticket {
     // Whether an edit goes on as most do: its swap found what it expected, and it isn't the last.
     pub fn goes_on(self, swapped: Swapped) -> bool
         requires { ⌜ (nextOf self < mostTargets) × (self .n ≤ mostTargets) ⌝ }
-        ensures { λ r. ⌜ r ≡ goesOn self (swapped .expected) (swapped .found) ⌝ }
+        ensures { λ r. ⌜ r ≡ continues self (swapped .expected) (swapped .found) ⌝ }
     {
         if swapped.found == swapped.expected {
             return self.next() + 1 != self.end();
