@@ -22,6 +22,7 @@ pub mod EditSteps
 pub mod ViewSteps
 pub mod Kept
 pub mod Demand3
+pub mod SurveyDemand3
 pub mod Holding
 pub mod Computing
 pub mod BenchTable

@@ -8,5 +8,6 @@ pub mod Demand1
 pub mod Demand2
 pub mod Survey
 pub mod Stream
+pub mod SurveyDemand3
 pub mod Pieces
 pub mod Bench
