@@ -11,9 +11,9 @@ use Rattle.tickets.specs.Tickets.{ticketOf}
 use Rattle.tickets.specs.Steps.{mostTries}
 use Rattle.tickets.specs.Targets.{targetIn}
 use Rattle.edits.specs.declared.Edit.{Edit}
-use Rattle.edits.specs.Opened.{storedTargets}
 use Rattle.plain.specs.Plain.{Plain, freshPlain, wordOf, legsInBook, Sound}
 use Rattle.plain.specs.Editing.{succeeds, attempt, addsIn, strikesIn}
+use Rattle.calls.specs.Order.{claimOrder}
 use Rattle.calls.specs.Call.{bookLengthWrong, badlyMade}
 use Rattle.calls.specs.Run.{Call, OfBytes, Heard, Run, run}
 use Rattle.calls.specs.Order.{Verdict, granted, stale, Event, decided, looked, seen, reserved, Asked, anEdit, aView, countAsked, Decision, Noted, Last, wasGranted, wasStale, wasSeen, Ended, order, ended, notesOn, HeldBy}
@@ -67,8 +67,8 @@ DecisionRight edit decision = decision .verdict ≡ verdictOf (play (decision .b
 
 -- A word that was named as the one that differed: that of the target after those claimed, whose plain word at the decision is not the quoted value.
 pub record Differed (edit : Edit) (ticket : Noted) (decision : Decision) (word : ℕ) : Type 0 where
-  pub named : word ≡ targetIn (storedTargets edit) (length (ticket .claimed)) .word
-  pub differs : wordOf (play (decision .before)) word ≡ targetIn (storedTargets edit) (length (ticket .claimed)) .quoted → ⊥
+  pub named : word ≡ targetIn (claimOrder (anEdit edit)) (length (ticket .claimed)) .word
+  pub differs : wordOf (play (decision .before)) word ≡ targetIn (claimOrder (anEdit edit)) (length (ticket .claimed)) .quoted → ⊥
 
 -- Stale repeats the word that Found named; where no Found came, nothing was claimed.
 abbrev pub Repeats : Option ℕ → ℕ → List ℕ → Type 0

@@ -12,9 +12,12 @@ use Rattle.tickets.specs.declared.StepAnswer.{StepAnswer}
 use Rattle.tickets.specs.declared.StepAnswer.the-variants.{Claimed, Waiting, Found, Put, Returned, Granted, Stale, Seen}
 use Rattle.tickets.specs.declared.LookAnswer.{LookAnswer}
 use Rattle.tickets.specs.declared.LookAnswer.the-variants.{Value, Held}
+use Rattle.tickets.specs.declared.Target.{Target}
+use Rattle.tickets.specs.Tickets.{target}
 use Rattle.edits.specs.declared.Edit.{Edit}
-use Rattle.edits.specs.Opened.{storedTargets, targetCount}
-use Rattle.edits.specs.Views.{claimedWords}
+use Rattle.legs.specs.Positions.{positionOf}
+use Rattle.edits.specs.Edits.{listedTargets}
+use Rattle.edits.specs.Opened.{orderedBy, targetCount}
 use Rattle.frames.specs.Request.{Request, Open, Step, Look, View}
 use Rattle.frames.specs.declared.Answer.{Answer}
 use Rattle.frames.specs.declared.Answer.the-variants as Answer
@@ -47,10 +50,18 @@ pub data Asked : Type 0 where
   anEdit : Edit → Asked
   aView : (words : List ℕ) → Asked
 
--- Its words in the order in which they are claimed, and how many targets it has.
+-- Its targets as its frame gives them; a view quotes nothing.
+abbrev pub targetsAsked : Asked → List Target
+targetsAsked (anEdit edit) = listedTargets edit
+targetsAsked (aView words) = map (λ word. target word 0 0) words
+
+-- "Targets are claimed by rising position": by the frame alone, whatever a ticket stores.
+abbrev pub claimOrder : Asked → List Target
+claimOrder asked = orderedBy positionOf (targetsAsked asked)
+
+-- Its words in that order, and how many targets it has.
 abbrev pub wordsAsked : Asked → List ℕ
-wordsAsked (anEdit edit) = map (λ target. target .word) (storedTargets edit)
-wordsAsked (aView words) = claimedWords words
+wordsAsked asked = map (λ target. target .word) (claimOrder asked)
 
 abbrev pub countAsked : Asked → ℕ
 countAsked (anEdit edit) = targetCount edit
