@@ -106,6 +106,8 @@ pub record Notes : Type 0 where
   pub order : List Event
   pub tickets : ℕ → Option Noted
   pub ended : List Ended
+  -- (An edit's ticket can't get Seen; a view can't get Found, Put, Granted or Stale, nor Seen before its last claim. An answer of the right kind
+  -- at a wrong moment, as Put while an edit claims, is not counted: like Waiting while the word is free, demand 2's step rule forbids it.)
   pub outOfTurn : ℕ
 
 abbrev pub notes : List Event → (ℕ → Option Noted) → List Ended → ℕ → Notes
@@ -206,13 +208,18 @@ abbrev pub hearPut : Notes → ℕ → Noted → Asked → ℕ → Notes
 hearPut n team ticket (anEdit edit) k = noteTicket n team (withReleased k ticket)
 hearPut n team ticket (aView words) k = noteOutOfTurn n
 
+-- An edit is granted; a view can't get this answer.
+abbrev pub hearGranted : Notes → ℕ → Noted → Asked → Last → Notes
+hearGranted n team ticket (anEdit edit) last = noteEnd n team (endedBy ticket last)
+hearGranted n team ticket (aView words) last = noteOutOfTurn n
+
 abbrev pub hearStepAnswer : Notes → ℕ → Noted → StepAnswer → Notes
 hearStepAnswer n team ticket (Claimed k) = hearClaimed n team ticket k
 hearStepAnswer n team ticket (Waiting word holder) = noteTicket n team (withWait ticket)
 hearStepAnswer n team ticket (Found word) = decide n team stale (withFound word ticket) (ticket .asked)
 hearStepAnswer n team ticket (Put k) = hearPut n team ticket (ticket .asked) k
 hearStepAnswer n team ticket (Returned k) = noteTicket n team (withReleased k ticket)
-hearStepAnswer n team ticket (Granted tries) = noteEnd n team (endedBy ticket (wasGranted tries))
+hearStepAnswer n team ticket (Granted tries) = hearGranted n team ticket (ticket .asked) (wasGranted tries)
 hearStepAnswer n team ticket (Stale word tries) = hearStale n team ticket (ticket .asked) (ticket .found) (wasStale word tries)
 hearStepAnswer n team ticket (Seen values) = hearSeen n team ticket (ticket .asked) (ticket .place) (valuesShown values)
 
