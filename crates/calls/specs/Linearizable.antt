@@ -2,12 +2,12 @@
 use Prim.Native.Nat.{ℕ, _+_, _*_, _<_, min}
 use mathlib.Core.Path.{_≡_}
 use mathlib.Core.List.{List, [], _∷_, _++_, map}
-use mathlib.Core.Bool.{false, cond}
+use mathlib.Core.Bool.{Bool, true, false, cond}
 use mathlib.Core.Option.{Option, none, some}
 use mathlib.Core.Logic.{_⊎_}
 use lib.ListN.{length}
 use Rattle.words.specs.Words.{Words, wordsInBook, readOf, markOf}
-use Rattle.tickets.specs.Tickets.{ticketOf}
+use Rattle.tickets.specs.Tickets.{ticketOf, hasTicket}
 use Rattle.tickets.specs.Steps.{mostTries}
 use Rattle.tickets.specs.Targets.{targetIn}
 use Rattle.edits.specs.declared.Edit.{Edit}
@@ -128,6 +128,11 @@ abbrev pub StandingRight : Option Noted → Type 0
 StandingRight none = Unit {0}
 StandingRight (some ticket) = DecidedAtMostOnce (ticket .asked) ticket
 
+-- A ticket stands where one is noted, and nowhere else.
+abbrev pub StandsAsNoted : Bool → Option Noted → Type 0
+StandsAsNoted stands none = stands ≡ false
+StandsAsNoted stands (some ticket) = stands ≡ true
+
 -- A last answer tells these tries; a view's tells none.
 abbrev pub TellsTries : Last → ℕ → Type 0
 TellsTries (wasGranted tries) steps = tries ≡ steps
@@ -197,6 +202,8 @@ pub record Linearizable (result : Run) : Type 0 where
   pub tries-add-up : Every TriesRight (ended (result .heard))
   -- Every call was answered by an answer that fits its frame, no Standing came over a ticket and no step's answer without one.
   pub in-turn : notesOn (result .heard) .outOfTurn ≡ 0
+  -- A ticket stands in the table exactly where one is noted: where none stands, every ticket has had its last answer.
+  pub noted-stand : (team : ℕ) → StandsAsNoted (hasTicket (ticketOf (result .end .tickets) team .phase)) (notesOn (result .heard) .tickets team)
 
 -- Statement: "It is a single claim about the list, not one for each call."
 abbrev pub Demand3 : Type 0
