@@ -168,30 +168,32 @@ bookAfter calls = run calls .end .book
 
 -- Of a run, what was heard and what it left: the order of what was heard is one of whole edits, looks and views, done one after another on the plain book.
 pub record Linearizable (result : Run) : Type 0 where
-  -- Every ticket decided as granted succeeds on the plain book at its turn, and every one decided as stale doesn't.
+  -- "Exactly the granted tickets succeed there, and exactly the stale ones come out stale."
   pub granted-succeed : (before after : List Event) (verdict : Verdict) (edit : Edit)
       → order (result .heard) ≡ before ++ (decided verdict edit ∷ after)
       → verdict ≡ verdictOf (play before) edit
-  -- Every value looked at is the plain book's word at that turn.
+  -- "Every value looked at is the plain book's word at that look's turn."
   pub looks-agree : (before after : List Event) (word value : ℕ)
       → order (result .heard) ≡ before ++ (looked word value ∷ after)
       → value ≡ wordOf (play before) word
-  -- Every finished view shows the plain book's words at its turn, which is that of its last claim.
+  -- (Request 1) "A finished view takes its place at its last claim and shows the plain book's words of that moment."
   pub views-agree : (before after : List Event) (words values : List ℕ)
       → order (result .heard) ≡ before ++ (seen words values ∷ after)
       → values ≡ map (wordOf (play before)) words
-  -- Every word that no ticket holds is the plain book's.
+  -- "Every word of the shared book that no ticket holds equals the same word of the plain book when all of them are done."
   pub words-agree : (word : ℕ)
       → word < wordsInBook
       → ((team : ℕ) → ¬ HeldBy (result .heard) team word)
       → readOf (result .end .book) word ≡ wordOf (play (order (result .heard))) word
-  -- A ticket's last answer, once it has come, is Granted if its edit succeeded and Stale if not, a view's the values; no ticket is decided twice or ends undecided.
+  -- "Demand 3 adds: a decided ticket's last answer, once it has come, is Granted if the edit succeeds on the plain book and Stale if not"; a view's is the values. Beyond that, no
+  -- ticket is decided twice or ends undecided (`once`), and Stale names the word that differed (`fits`).
   pub last-answers : Every EndedRight (ended (result .heard))
-  -- A ticket still standing is decided at most once, and Found named the word that differed; a view never is.
+  -- (Beyond the papers) A ticket still standing is decided at most once, and Found named the word that differed; a view never is.
   pub decided-once : (team : ℕ) → StandingRight (notesOn (result .heard) .tickets team)
   -- The counts of all passages sum to granted adds less granted strikes.
   pub counts-add-up : legsInBook (play (order (result .heard))) + grantedOf strikesIn (order (result .heard)) ≡ grantedOf addsIn (order (result .heard))
   -- A word that a ticket holds is its team's mark, so that no word too many is taken for held.
+  -- (This field and all that follow go beyond the papers.)
   pub held-marked : (team word : ℕ) → HeldBy (result .heard) team word → readOf (result .end .book) word ≡ markOf team
   -- The plain book keeps its rules: all in range, from other than to, no number twice.
   pub plain-sound : Sound (play (order (result .heard)))

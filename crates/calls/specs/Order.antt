@@ -37,7 +37,7 @@ pub data Event : Type 0 where
   seen : (words values : List ℕ) → Event
   reserved : (team : ℕ) → Event
 
--- "An unfinished one has no place": a place that is only reserved is left out.
+-- A view that is not finished has no place: one that is only reserved is left out.
 unfoldable pub finished : List Event → List Event
 finished [] = []
 finished (decided verdict edit ∷ events) = decided verdict edit ∷ finished events
@@ -67,7 +67,7 @@ abbrev pub countAsked : Asked → ℕ
 countAsked (anEdit edit) = targetCount edit
 countAsked (aView words) = length words
 
--- A decision of an edit's ticket: what it was, and the order before it.
+-- A decision of an edit's ticket: what it was, and the order before it as it stood then. A place in it that is filled later changes no plain book.
 pub record Decision : Type 0 where
   pub verdict : Verdict
   pub before : List Event
