@@ -1,5 +1,4 @@
 pub mod Call
-pub mod Way
 pub mod Run
 pub mod Order
 pub mod Linearizable
@@ -11,3 +10,4 @@ pub mod Stream
 pub mod SurveyDemand3
 pub mod Pieces
 pub mod Bench
+pub mod Way
