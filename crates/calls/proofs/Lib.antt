@@ -1,3 +1,5 @@
+pub mod Computing
+pub mod RefusalOrder
 pub mod Refusing
 pub mod Way
 pub mod WellMadeTables
@@ -24,7 +26,6 @@ pub mod Kept
 pub mod Demand3
 pub mod SurveyDemand3
 pub mod Holding
-pub mod Computing
 pub mod BenchTable
 pub mod ExampleCalls
 mod OutOfTurn
