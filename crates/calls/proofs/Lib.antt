@@ -29,3 +29,4 @@ pub mod Holding
 pub mod BenchTable
 pub mod ExampleCalls
 mod OutOfTurn
+mod RefutedEnds
