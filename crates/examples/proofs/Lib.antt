@@ -2,6 +2,7 @@ mod RefusalExamples
 mod ExamplesWholeCase
 mod ExamplesContended
 mod ExamplesMoves
+mod ExamplesPositions
 mod ExamplesPieces
 mod ExamplesViews
 mod ExamplesRounds
