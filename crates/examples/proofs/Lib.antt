@@ -6,4 +6,8 @@ mod ExamplesPositions
 mod ExamplesPieces
 mod ExamplesViews
 mod ExamplesRounds
+mod OneTeam
+mod RefutedOrders
+mod RefutedTickets
+mod WaitingAllowed
 mod ExamplesHeard
