@@ -1,18 +1,26 @@
--- `survey::serve_front` meets its contract: it stops, or the rest is at the front.
+-- `serve::serve_front` meets its contract: it stops with Refused 3, or the rest is at the front.
 use native.Mathlib.Omega.{arith}
 use mathlib.Core.Path.{sym, _∙_}
 use denote.Ref.{now}
 use borrow.Author.Tests.{not-true, not-false}
-use Rattle.survey.proofs.Serving.{serves-no-more, serves-on, few-kept}
+use Rattle.serve.proofs.Serving.{serves-refused, serves-on, room-to-refuse, refused-inside, few-kept}
 use borrow.Author.Needs.{needs}
-use Rattle.survey.proofs.serve_front.Statement.{statement}
-use Rattle.survey.proofs.serve_front.Tie as tie
+use Rattle.serve.proofs.serve_front.Statement.{statement}
+use Rattle.serve.proofs.serve_front.Tie as tie
 
 stream-front-requires : tie.Need-stream-front-requires
 stream-front-requires c κs = search needs
 
 goes-on-requires : tie.Need-goes-on-requires
 goes-on-requires c κs = search needs
+
+put-torn-requires : tie.Need-put-torn-requires
+put-torn-requires c κs =
+    let start = c .before .before .before .before .before .before .before .before .before .before .before .before .before .before .before in
+    let args = start .args in
+    let answered = c .before .before .before .before .before .before .before .before .stream-front in
+    room-to-refuse (now (args .book)) (args .tickets) (now (args .buffer)) (args .have) (now (args .out)) _ _ _ (answered .ensures .1) (start .pre .1) (start .pre .0) (start .pre .2)
+    (sym (c .before .before .goes-on .ensures) ∙ not-true _ (c .before .if1 .taken))
 
 same-length : tie.Need-same-length
 same-length c = search needs
@@ -25,9 +33,14 @@ same-length-3 c = search needs
 
 returns : tie.Need-returns
 returns c =
-    let args = c .before .before .before .before .before .before .before .before .before .before .before .before .before .before .args in
-    let answered = c .before .before .before .before .before .before .before .stream-front in
-    ((omega arith, omega arith, answered .ensures .0 .1), serves-no-more (now (args .book)) (args .tickets) (now (args .buffer)) (args .have) (now (args .out)) _ _ _ (answered .ensures .1) (sym (c .before .goes-on .ensures) ∙ not-true _ (c .if1 .taken)))
+    let start = c .before .before .before .before .before .before .before .before .before .before .before .before .before .before .before .before .before .before in
+    let args = start .args in
+    let answered = c .before .before .before .before .before .before .before .before .before .before .before .stream-front in
+    let put = c .before .before .put-torn .ensures in
+    let ends = sym (c .before .before .before .before .before .goes-on .ensures) ∙ not-true _ (c .before .before .before .before .if1 .taken) in (
+      (omega arith, omega arith, refused-inside (now (args .book)) (args .tickets) (now (args .buffer)) (args .have) (now (args .out)) _ _ _ (answered .ensures .1) (start .pre .1) (start .pre .0) (start .pre .2) put),
+      serves-refused (now (args .book)) (args .tickets) (now (args .buffer)) (args .have) (now (args .out)) _ _ _ (answered .ensures .1) put ends,
+    )
 
 shift-requires : tie.Need-shift-requires
 shift-requires c κs = search needs
@@ -57,6 +70,7 @@ serve-front-spec =
     (tie.spec
     stream-front-requires
     goes-on-requires
+    put-torn-requires
     same-length
     same-length-2
     same-length-3

@@ -1,4 +1,4 @@
--- `survey::shift` meets its contract: after k turns the first k bytes from `from` on stand at the front, and what is still to be read is as it was.
+-- `serve::shift` meets its contract: after k turns the first k bytes from `from` on stand at the front, and what is still to be read is as it was.
 use borrow.Author.Needs.{needs}
 use native.Mathlib.Omega.{arith}
 use mathlib.Core.Path.{_≡_, refl, sym, ap, _∙_}
@@ -6,9 +6,9 @@ use Prim.Native.Nat.{ℕ, _+_, _-_, _<_, _≤_}
 use lib.ListN.{length, getD, set, length-set}
 use denote.Ref.{now}
 use Rattle.frames.specs.Numbers.{Bytes}
-use Rattle.survey.proofs.Moving.{moved, moved-turn}
-use Rattle.survey.proofs.shift.Statement.{statement}
-use Rattle.survey.proofs.shift.Tie as tie
+use Rattle.serve.proofs.Moving.{moved, moved-turn}
+use Rattle.serve.proofs.shift.Statement.{statement}
+use Rattle.serve.proofs.shift.Tie as tie
 
 abbrev Inv-loop : tie.InvT-loop
 Inv-loop buffer₀ from have count k₀ buffer k = (from + count ≡ have) × (length buffer ≡ length buffer₀) × (k ≤ count) × (buffer ≡ moved buffer₀ from k)

@@ -1,4 +1,4 @@
--- `survey::stream_front` meets its contract: the stream of the first bytes of the buffer.
+-- `serve::stream_front` meets its contract: the stream of the first bytes of the buffer.
 use native.Mathlib.Omega.{arith}
 use Prim.Native.Nat.{ℕ, _-_}
 use mathlib.Core.Path.{_≡_, ap, _∙_}
@@ -6,8 +6,8 @@ use lib.ListN.{take}
 use denote.Ref.{now}
 use Rattle.calls.specs.Stream.{streamOf}
 use borrow.Author.Needs.{needs}
-use Rattle.survey.proofs.stream_front.Statement.{statement}
-use Rattle.survey.proofs.stream_front.Tie as tie
+use Rattle.serve.proofs.stream_front.Statement.{statement}
+use Rattle.serve.proofs.stream_front.Tie as tie
 
 sub-stream : tie.Need-sub-stream
 sub-stream c = search needs
