@@ -780,7 +780,7 @@ pub fn of_hex(text: &str) -> Vec<u8> {
 }
 
 /// The stored stream: the whole case, shafts, crossing moves, a strike of f = r,
-/// contention, fuzz, a sweep, a torn end.
+/// contention, fuzz, a sweep, a length field above 62 and a look behind it.
 pub fn stored() -> Vec<u8> {
     let mut author = Author::new(STORED_SEED);
     for frame in split(&whole_case().0) {
@@ -797,7 +797,10 @@ pub fn stored() -> Vec<u8> {
     author.fuzz(1_500);
     author.contend(1_000);
     author.sweep();
-    author.bytes.extend([0x18, 0x00, 0x01]);
+    // A length field of 63 stops the program: neither its bytes nor the look behind them are answered.
+    author.bytes.extend([63, 0]);
+    author.bytes.extend([0; 63]);
+    author.bytes.extend([4, 0, 6, 0, 0, 0]);
     author.bytes
 }
 

@@ -45,7 +45,7 @@ use Rattle.calls.proofs.Refusing.{named-many}
 use Rattle.calls.specs.declared.Aim.{Aim}
 use Rattle.calls.specs.declared.Aim.the-variants as Aim
 use Rattle.calls.specs.declared.Settled.{Settled}
-use Rattle.calls.specs.Way.{aimBy, AimKnown, SlotKnown, TeamFrame, slotOf, settled, lookAnswer, openSettled, readingSettled, viewSettled, stepSettled, newSettled, EditFields, teamSettled, stepsEdit, opensEdit, lookSettled, settledBy}
+use Rattle.calls.specs.Way.{aimBy, AimKnown, SlotKnown, TeamFrame, slotOf, settledWith, lookAnswer, openSettled, readingSettled, viewSettled, stepSettled, newSettled, EditFields, teamSettled, stepsEdit, opensEdit, lookSettled, settledBy}
 
 -- Where a whole frame goes.
 pub aim-look : (frame : Bytes) (kind : ℕ) → kind ≡ lookKind → Aim.Look ≡ aimBy frame (Header.Kind kind)
@@ -138,7 +138,7 @@ edit-stands Viewed edit = absurd (false≢true edit)
 
 -- A team's frame, by its ticket and kind.
 module _ (words : Words) (ticket : Ticket) (part : Bytes) (kind team : ℕ) where
-  pub team-badly-made : hasTicket (ticket .phase) ≡ true → wellMade ticket ≡ false → _≡_ {A = Settled × Words} (settled ticket (Answer.Refused 7), words) (teamSettled words ticket part kind team)
+  pub team-badly-made : hasTicket (ticket .phase) ≡ true → wellMade ticket ≡ false → _≡_ {A = Settled × Words} (settledWith ticket (Answer.Refused 7), words) (teamSettled words ticket part kind team)
   unfolding teamSettled
   team-badly-made h w = rw (h, w) refl
 
@@ -146,11 +146,11 @@ module _ (words : Words) (ticket : Ticket) (part : Bytes) (kind team : ℕ) wher
   unfolding teamSettled
   team-steps h w e = rw (h, w, eq-eqb kind stepKind e) refl
 
-  pub team-stands : hasTicket (ticket .phase) ≡ true → wellMade ticket ≡ true → (kind ≡ stepKind → ⊥) → _≡_ {A = Settled × Words} (settled ticket (Answer.Refused 8), words) (teamSettled words ticket part kind team)
+  pub team-stands : hasTicket (ticket .phase) ≡ true → wellMade ticket ≡ true → (kind ≡ stepKind → ⊥) → _≡_ {A = Settled × Words} (settledWith ticket (Answer.Refused 8), words) (teamSettled words ticket part kind team)
   unfolding teamSettled
   team-stands h w n = rw (h, w, ne-eqb kind stepKind n) refl
 
-  pub team-without : hasTicket (ticket .phase) ≡ false → kind ≡ stepKind → _≡_ {A = Settled × Words} (settled ticket (Answer.Refused 9), words) (teamSettled words ticket part kind team)
+  pub team-without : hasTicket (ticket .phase) ≡ false → kind ≡ stepKind → _≡_ {A = Settled × Words} (settledWith ticket (Answer.Refused 9), words) (teamSettled words ticket part kind team)
   unfolding teamSettled
   team-without h e = rw (h, eq-eqb kind stepKind e) refl
 
@@ -184,11 +184,11 @@ module _ (words : Words) (ticket : Ticket) (part : Bytes) (kind team : ℕ) wher
   view-fields e known = rw (eq-eqb kind viewKind e) at (known .fields)
 
 -- An edit read opens its ticket, whose number of targets Standing tells.
-pub opened-settles : (ticket : Ticket) (edit : Edit) → settled (openedTicket edit) (Answer.Standing (openedTicket edit .n)) ≡ openSettled ticket (EditRead.Is edit)
+pub opened-settles : (ticket : Ticket) (edit : Edit) → settledWith (openedTicket edit) (Answer.Standing (openedTicket edit .n)) ≡ openSettled ticket (EditRead.Is edit)
 unfolding openSettled openedTicket
-opened-settles ticket edit = ap (λ (n : ℕ). settled (openedTicket edit) (Answer.Standing n)) (targets-counted edit .1)
+opened-settles ticket edit = ap (λ (n : ℕ). settledWith (openedTicket edit) (Answer.Standing n)) (targets-counted edit .1)
 
-pub refused-settles : (ticket : Ticket) (number : ℕ) → settled ticket (Answer.Refused number) ≡ openSettled ticket (EditRead.Refused number)
+pub refused-settles : (ticket : Ticket) (number : ℕ) → settledWith ticket (Answer.Refused number) ≡ openSettled ticket (EditRead.Refused number)
 unfolding openSettled
 refused-settles ticket number = refl
 
@@ -223,15 +223,15 @@ pub view-opened : (ticket : Ticket) (read : ViewRead) → read .reading ≡ Read
 unfolding viewSettled
 view-opened ticket read is = ap (readingSettled ticket (read .view)) (sym is)
 
-pub view-refused : (ticket : Ticket) (read : ViewRead) (number : ℕ) → read .reading ≡ Reading.Refused number → settled ticket (Answer.Refused number) ≡ viewSettled ticket read
+pub view-refused : (ticket : Ticket) (read : ViewRead) (number : ℕ) → read .reading ≡ Reading.Refused number → settledWith ticket (Answer.Refused number) ≡ viewSettled ticket read
 unfolding viewSettled
 view-refused ticket read number is = ap (readingSettled ticket (read .view)) (sym is)
 
 -- So does a view.
 pub view-settles : (ticket : Ticket) (view : View) → FineView (wordsNamed view) → view ≡ viewOf (wordsNamed view)
-    → settled (openedView (wordsNamed view)) (Answer.Standing (openedView (wordsNamed view) .n)) ≡ readingSettled ticket view Reading.Is
+    → settledWith (openedView (wordsNamed view)) (Answer.Standing (openedView (wordsNamed view) .n)) ≡ readingSettled ticket view Reading.Is
 view-settles ticket view fine is =
-    ap (λ (n : ℕ). settled (openedView (wordsNamed view)) (Answer.Standing n)) (opened-views-hold-words (wordsNamed view) fine .many ∙ (λ i. sym is i .n))
+    ap (λ (n : ℕ). settledWith (openedView (wordsNamed view)) (Answer.Standing n)) (opened-views-hold-words (wordsNamed view) fine .many ∙ (λ i. sym is i .n))
 
 -- Every known frame has room for the first field of its part.
 pub team-inside : (frame : Bytes) (kind : ℕ) → Whole frame kind → 1 < length (partAfterKind frame)
@@ -268,21 +268,21 @@ gone-after ticket (EditAnswer.Granted tries) ends = refl
 gone-after ticket (EditAnswer.Stale word tries) ends = refl
 
 -- What a refused frame and a look settle.
-pub refused-by : (words : Words) (ticket : Ticket) (frame : Bytes) (number : ℕ) → _≡_ {A = Settled × Words} (settled ticket (Answer.Refused number), words) (settledBy words ticket frame (Aim.Refused number))
+pub refused-by : (words : Words) (ticket : Ticket) (frame : Bytes) (number : ℕ) → _≡_ {A = Settled × Words} (settledWith ticket (Answer.Refused number), words) (settledBy words ticket frame (Aim.Refused number))
 unfolding settledBy
 refused-by words ticket frame number = refl
 
 pub look-by : (words : Words) (ticket : Ticket) (frame : Bytes) (word : ℕ) → word ≡ number16 (partAfterKind frame) 0
-    → _≡_ {A = Settled × Words} (settled ticket (lookAnswer words word), words) (settledBy words ticket frame Aim.Look)
+    → _≡_ {A = Settled × Words} (settledWith ticket (lookAnswer words word), words) (settledBy words ticket frame Aim.Look)
 unfolding settledBy lookSettled
-look-by words ticket frame word is = λ i. (settled ticket (lookAnswer words (is i)), words)
+look-by words ticket frame word is = λ i. (settledWith ticket (lookAnswer words (is i)), words)
 
 -- A team's frame whose ticket is stepped: what the swap found settles it.
 pub step-by : (words : Words) (ticket : Ticket) (frame : Bytes) (kind team found : ℕ) {after : Ticket} {answer : StepAnswer} {swapped : Words}
     → hasTicket (ticket .phase) ≡ true → wellMade ticket ≡ true → kind ≡ stepKind
     → _≡_ {A = Stepped × Words} (Steps.settled ticket found, swapped) (stepOf words ticket team)
     → Steps.stepped after answer ≡ Steps.settled ticket found
-    → _≡_ {A = Settled × Words} (settled after (Answer.Step answer), swapped) (settledBy words ticket frame (Aim.Team kind team))
+    → _≡_ {A = Settled × Words} (settledWith after (Answer.Step answer), swapped) (settledBy words ticket frame (Aim.Team kind team))
 unfolding settledBy
 step-by words ticket frame kind team found {swapped = swapped} stands made step swaps settles =
     ap stepSettled ((λ i. (settles i, swapped)) ∙ swaps) ∙ team-steps words ticket (partAfterKind frame) kind team stands made step
@@ -297,14 +297,14 @@ module _ (words : Words) (ticket : Ticket) (frame : Bytes) (kind team : ℕ) (pa
       ∙ team-opens-edit words ticket (partAfterKind frame) kind team opens
 
   pub opened-by : (edit : Edit) (opened : Ticket) → read ≡ EditRead.Is edit → opened ≡ openedTicket edit
-      → _≡_ {A = Settled × Words} (settled opened (Answer.Standing (opened .n)), words) (settledBy words ticket frame (Aim.Team kind team))
+      → _≡_ {A = Settled × Words} (settledWith opened (Answer.Standing (opened .n)), words) (settledBy words ticket frame (Aim.Team kind team))
   opened-by edit opened is opens-it =
-      (λ i. (settled (opens-it i) (Answer.Standing (opens-it i .n)), words))
+      (λ i. (settledWith (opens-it i) (Answer.Standing (opens-it i .n)), words))
       ∙ (λ i. (opened-settles ticket edit i, words))
       ∙ (λ i. (openSettled ticket (sym is i), words))
       ∙ reads-by
 
-  pub unopened-by : (number : ℕ) → read ≡ EditRead.Refused number → _≡_ {A = Settled × Words} (settled ticket (Answer.Refused number), words) (settledBy words ticket frame (Aim.Team kind team))
+  pub unopened-by : (number : ℕ) → read ≡ EditRead.Refused number → _≡_ {A = Settled × Words} (settledWith ticket (Answer.Refused number), words) (settledBy words ticket frame (Aim.Team kind team))
   unopened-by number is = (λ i. (refused-settles ticket number i, words)) ∙ (λ i. (openSettled ticket (sym is i), words)) ∙ reads-by
 
 -- Any other frame of a team.

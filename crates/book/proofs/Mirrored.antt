@@ -31,7 +31,7 @@ use Rattle.frames.specs.Numbers.{Bytes, number16}
 use Rattle.frames.specs.Requests.{stepKind, viewKind, editOfKind, viewWordsIn}
 use Rattle.frames.specs.Fields.{editRead, viewRead}
 use Rattle.calls.specs.declared.Settled.{Settled}
-use Rattle.calls.specs.Way.{settled, readingSettled, viewSettled, openSettled, newSettled, stepSettled, teamSettled, stepsEdit, opensEdit, TeamFrame}
+use Rattle.calls.specs.Way.{settledWith, readingSettled, viewSettled, openSettled, newSettled, stepSettled, teamSettled, stepsEdit, opensEdit, TeamFrame}
 use Rattle.book.proofs.Going.{view-kind}
 
 -- The mirror shows a ticket in its slot, if it is an edit's; so it does with every slot of a table.
@@ -141,8 +141,8 @@ team-rests words ticket part kind team known no-step no-edit =
 
     go : (stands made step viewed : Bool) → hasTicket (ticket .phase) ≡ stands → eqb kind stepKind ≡ step → eqb kind viewKind ≡ viewed
         → Rests ticket ((cond {A = Settled × Words} stands
-        (cond made (cond step (stepSettled (stepOf words ticket team)) (settled ticket (Answer.Refused 8), words)) (settled ticket (Answer.Refused 7), words))
-        (cond step (settled ticket (Answer.Refused 9), words)
+        (cond made (cond step (stepSettled (stepOf words ticket team)) (settledWith ticket (Answer.Refused 8), words)) (settledWith ticket (Answer.Refused 7), words))
+        (cond step (settledWith ticket (Answer.Refused 9), words)
         (cond viewed (viewSettled ticket (viewRead (number16 part 2) (viewWordsIn part))) (openSettled ticket (editRead (editOfKind kind part))), words))) .0 .ticket)
     go true true true viewed s k v = inr (view-steps words ticket team (else-view (ticket .phase) s (no-edits k)))
     go true true false viewed s k v = inl refl

@@ -16,7 +16,7 @@ ghost use Rattle.frames.specs.declared.Header.the-variants as Header;
 ghost use Rattle.calls.specs.Call.{callOf};
 ghost use Rattle.calls.specs.declared.Stop.the-variants.{MoreInput};
 ghost use Rattle.calls.specs.Stream.{nextAt, NextInside, PutAt, streamed, stoppedOr, streamFrom, streamOf};
-ghost use Rattle.calls.specs.Way.{aimBy, aimOf, AimKnown, SlotKnown, TeamFrame, slotOf, settled, lookAnswer, openSettled, viewSettled, stepSettled, EditFields, SlotWellMade, TableWellMade, slotWellMade, wellMadeFrom, teamSettled, stepsEdit, opensEdit, settledBy};
+ghost use Rattle.calls.specs.Way.{aimBy, aimOf, AimKnown, SlotKnown, TeamFrame, slotOf, settledWith, lookAnswer, openSettled, viewSettled, stepSettled, EditFields, SlotWellMade, TableWellMade, slotWellMade, wellMadeFrom, teamSettled, stepsEdit, opensEdit, settledBy};
 use calls::Aim;
 use calls::Next;
 use calls::Reply;
@@ -76,7 +76,7 @@ fn slot_of(aim: Aim) -> usize
 }
 
 fn refused(ticket: Ticket, number: u16) -> Settled
-    ensures { λ r. ⌜ r ≡ settled ticket (Answer.Refused number) ⌝ }
+    ensures { λ r. ⌜ r ≡ settledWith ticket (Answer.Refused number) ⌝ }
 {
     Settled {
         ticket: ticket,
@@ -153,7 +153,7 @@ fn step_view(book: &mut [u64], ticket: Ticket, team: u16) -> Settled
 // What an edit's answer leaves.
 fn step_settled(ticket: Ticket, step: EditAnswer) -> Settled
     requires { ⌜ AnswerFits ticket step ⌝ }
-    ensures { λ r. ⌜ r ≡ settled (afterAnswer ticket step) (Answer.Step (asStep step)) ⌝ }
+    ensures { λ r. ⌜ r ≡ settledWith (afterAnswer ticket step) (Answer.Step (asStep step)) ⌝ }
 {
     if step.finishes() {
         return Settled {

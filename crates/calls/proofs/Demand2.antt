@@ -1,15 +1,20 @@
--- Demand 2: an edit or a view opens its ticket, a step is one conditional swap, a look is one read; each is what the call's definition says.
+-- Demand 2: an edit or a view opens its ticket, a step is one conditional swap, a look is one read, each by the call's definition; the rest is proved where it stands.
 use mathlib.Core.Path.{_≡_, refl, sym, ap, subst, _∙_}
 use mathlib.Core.Option.{none}
 use Rattle.words.specs.Words.{Words}
 use Rattle.tickets.specs.declared.Tickets.{Tickets}
 use Rattle.tickets.specs.Steps.{stepOf}
+use Rattle.tickets.proofs.Swapping.{step-swaps-one-word, views-take-any-value, waiting-tells-holder}
+use Rattle.legs.proofs.Ranks.{fixed-ranks-are-permutation, positions-differ}
+use Rattle.legs.proofs.RoundTrip.{legs-read-back, only-legs-read}
+use Rattle.frames.proofs.Asked.{requests-read-back}
+use Rattle.frames.proofs.ReadsBack.{answers-read-back}
 use Rattle.frames.specs.Request.{Request, Open, Step, Look, View}
 use Rattle.frames.specs.Numbers.{Bytes}
 use Rattle.frames.specs.Requests.{requestIn}
 use Rattle.frames.specs.Answers.{answerFrame}
 use Rattle.calls.specs.Call.{refusalOf, Done, bytes, requestDone, refusedOr, doneOf, sentOf, writtenBy, callOf}
-use Rattle.calls.specs.Demand2.{Does, CallGives, Demand2}
+use Rattle.calls.specs.Demand2.{Does, CallGives, CallsDo, Demand2}
 
 request-does : (words : Words) (tickets : Tickets) (request : Request) → Does words tickets request (requestDone words tickets request)
 unfolding requestDone stepOf
@@ -37,8 +42,22 @@ call-gives : (words : Words) (tickets : Tickets) (frame out : Bytes) → let ans
 unfolding callOf
 call-gives words tickets frame out sends = record { words-left = refl; tickets-left = refl; output = ap (writtenBy out) sends }
 
-pub demand2 : Demand2
-demand2 words tickets frame out request passes asked =
+calls-do : CallsDo
+calls-do words tickets frame out request passes asked =
     let is = not-refused words tickets frame out request passes asked in
     let sends = subst (λ (result : Done). sentOf (result .answer) ≡ bytes (answerFrame (result .answer))) is (request-sent words tickets request) in
     (subst (Does words tickets request) is (request-does words tickets request), call-gives words tickets frame out sends)
+
+pub demand2 : Demand2
+demand2 = record {
+  calls-do = calls-do;
+  steps-swap-one = step-swaps-one-word;
+  views-take-any = views-take-any-value;
+  waiting-tells = waiting-tells-holder;
+  ranks-permute = fixed-ranks-are-permutation;
+  positions-differ = positions-differ;
+  requests-read = requests-read-back;
+  answers-read = answers-read-back;
+  legs-read = legs-read-back;
+  only-legs-read = only-legs-read;
+}

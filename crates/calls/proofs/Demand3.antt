@@ -28,6 +28,7 @@ use Rattle.calls.specs.Run.{Call, framed, OfBytes, Shared, fresh, heardO
 use Rattle.calls.specs.Order.{stale, decided, looked, seen, Asked, anEdit, aView, Noted, Notes, noNotes, hearAnswer, notesFrom, notesOn, holds, holdsWord}
 use Rattle.calls.specs.Linearizable.{playFrom, play, grantedOf, FoundFits, DecidedAtMostOnce, StandingRight, Every, heardOn, Demand3}
 use Rattle.calls.specs.Demand1.{TableFits}
+use Rattle.calls.specs.Linearizable.{StandsAsNoted}
 use Rattle.calls.proofs.Tables.{tables-stay}
 use Rattle.calls.proofs.Hearing.{answers-heard}
 use Rattle.calls.proofs.Orders.{RightFrom, right-at, play-finished}
@@ -113,6 +114,10 @@ standing-right : (ticket : Ticket) (note : Option Noted) → Tied ticket note �
 standing-right ticket none absent = tt
 standing-right ticket (some noted) known = decided-as (noted .asked) ticket noted (known .rest)
 
+stands-as-noted : (ticket : Ticket) (note : Option Noted) → Tied ticket note → StandsAsNoted (hasTicket (ticket .phase)) note
+stands-as-noted ticket none absent = ap hasTicket absent
+stands-as-noted ticket (some noted) known = known-stands known
+
 -- The book and tickets that a call leaves are those of what it does.
 left-kept : (shared : Shared) (n : Notes) → TableFits (shared .tickets) → Good shared n → (frame out : Bytes) → areBytes frame ≡ true
     → Good (leftBy shared (framed frame out)) (hearAnswer n frame (some (doneOf (shared .book) (shared .tickets) frame out .answer)))
@@ -132,7 +137,7 @@ calls-keep (framed frame out ∷ calls) bytes shared n table good =
         (left-kept shared n table good frame out (bytes .0))
 
 -- The table stays one as the code has it.
-tables-run : (calls : List Call) (shared : Shared) → TableFits (shared .tickets) → TableFits (runFrom shared calls .end .tickets)
+pub tables-run : (calls : List Call) (shared : Shared) → TableFits (shared .tickets) → TableFits (runFrom shared calls .end .tickets)
 unfolding runFrom
 tables-run [] shared table = table
 tables-run (framed frame out ∷ calls) shared table = tables-run calls (leftBy shared (framed frame out)) (tables-stay (shared .book) (shared .tickets) frame out table)
@@ -165,4 +170,5 @@ demand3 calls bytes =
       stays-well-made = λ team. well-made (ticketOf (shared .tickets) team) (subst (λ size. FitSlot size (ticketOf (shared .tickets) team)) (good .whole) (good .agree .fit team));
       tries-add-up = good .tries;
       in-turn = good .in-turn;
+      noted-stand = λ team. stands-as-noted (ticketOf (shared .tickets) team) (n .tickets team) (good .tied team);
     }

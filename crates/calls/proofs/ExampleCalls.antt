@@ -2,17 +2,17 @@
 use Prim.Native.Nat.{ℕ, zero, suc}
 use mathlib.Core.List.{List, [], _∷_, map}
 use mathlib.Core.Option.{Option}
-use lib.ListN.{replicate}
+use lib.ListN.{length, replicate}
 use Rattle.legs.specs.declared.Measure.{Measure}
 use Rattle.frames.specs.Request.{Request, Step}
 use Rattle.frames.specs.declared.Answer.{Answer}
 use Rattle.frames.specs.Numbers.{numbers64}
-use Rattle.frames.specs.Answers.{longestAnswer}
+use Rattle.frames.specs.Answers.{answerFrame, longestAnswer}
 use Rattle.frames.specs.Reading.{answerIn}
 use Rattle.frames.specs.Writing.{requestFrame}
 use Rattle.plain.specs.Plain.{Plain, NumberedLeg, findBelow, wordOf, legsBelow}
 use Rattle.plain.specs.Editing.{succeeds, perform, attempt}
-use Rattle.calls.specs.Run.{Call, framed, answerHeard, runFrom}
+use Rattle.calls.specs.Run.{Call, framed, Heard, answerHeard, runFrom}
 use Rattle.calls.specs.Order.{finished, notesFrom, holds}
 use Rattle.calls.specs.Linearizable.{playFrom, grantedOf, heardOn}
 use Rattle.calls.specs.Bench.{stations}
@@ -33,6 +33,10 @@ steps many team = replicate many (Step team)
 -- The answers that were heard.
 abbrev pub answers : List Call → List (Option Answer)
 answers list = map answerHeard (heardOn list)
+
+-- An answer to a request, heard.
+abbrev pub heardAs : Request → Answer → Heard
+heardAs request answer = record { call = framed (requestFrame request) []; returned = length (answerFrame answer); output = answerFrame answer }
 
 -- A leg from 1 to 2.
 abbrev pub leg : ℕ → Measure → NumberedLeg

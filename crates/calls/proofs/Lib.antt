@@ -1,3 +1,5 @@
+pub mod Computing
+pub mod RefusalOrder
 pub mod Refusing
 pub mod Way
 pub mod WellMadeTables
@@ -22,13 +24,9 @@ pub mod EditSteps
 pub mod ViewSteps
 pub mod Kept
 pub mod Demand3
+pub mod SurveyDemand3
 pub mod Holding
-pub mod Computing
 pub mod BenchTable
-mod RefusalExamples
 pub mod ExampleCalls
-mod ExamplesWholeCase
-mod ExamplesContended
-pub mod ExamplesMoves
-mod ExamplesPieces
-mod ExamplesViews
+mod OutOfTurn
+mod RefutedEnds

@@ -34,7 +34,7 @@ use Rattle.calls.specs.declared.Settled.{Settled}
 use Rattle.calls.specs.declared.Reply.{Reply}
 use Rattle.calls.proofs.Refusing.{not-returned}
 use Rattle.calls.specs.Call.{refusalChecks, refusalOf, Done, done, refusedOr, doneOf, Sent, number, bytes, sentOf, writtenBy, callOf}
-use Rattle.calls.specs.Way.{aimBy, aimOf, slotOf, settled, lookSettled, openSettled, viewSettled, stepSettled, newSettled, teamSettled, settledBy, wayDone, wayOf}
+use Rattle.calls.specs.Way.{aimBy, aimOf, slotOf, settledWith, lookSettled, openSettled, viewSettled, stepSettled, newSettled, teamSettled, settledBy, wayDone, wayOf}
 use Rattle.calls.proofs.Way.{way-is-call}
 
 -- An answer that goes out as a frame: any but refusals 1 and 2.
@@ -114,8 +114,8 @@ team-framed words ticket part kind team = go (hasTicket (ticket .phase)) (wellMa
   where
     go : (stands made step : Bool)
         → Framed ((cond {A = Settled × Words} stands
-        (cond made (cond step (stepSettled (stepOf words ticket team)) (settled ticket (Answer.Refused 8), words)) (settled ticket (Answer.Refused 7), words))
-        (cond step (settled ticket (Answer.Refused 9), words) (newSettled ticket part kind, words))) .0 .answer)
+        (cond made (cond step (stepSettled (stepOf words ticket team)) (settledWith ticket (Answer.Refused 8), words)) (settledWith ticket (Answer.Refused 7), words))
+        (cond step (settledWith ticket (Answer.Refused 9), words) (newSettled ticket part kind, words))) .0 .answer)
     go true true true = tt
     go true true false = lit≤ tt
     go true false step = lit≤ tt

@@ -138,12 +138,16 @@ module _ (words : Words) (tickets : Tickets) (input out : Bytes) (whole : length
   abbrev right : StreamRight (sharing words tickets) input out result
   right = stream-is-run words tickets input out whole
 
-  pub rest-none : Roomy input out → StartsWhole (drop (result .0 .consumed) input) → ⊥
-  rest-none roomy =
+  -- Where two bytes are left there is room for one more answer,
+  pub room-left : Roomy input out → 2 ≤ length (drop (result .0 .consumed) input) → longestAnswer ≤ length out - result .0 .written
+  room-left roomy two =
       let over = drop (result .0 .consumed) input in
       let long = ap length (right .parts) in
-      none-left (result .0 .stop) over (length out - result .0 .written) (right .stop-right)
-      (λ two. omega (arith, roomy, two, long, length-append (joined (right .frames)) over, right .written, run-short words tickets (right .frames) whole (right .all-whole)))
+      omega (arith, roomy, two, long, length-append (joined (right .frames)) over, right .written, run-short words tickets (right .frames) whole (right .all-whole))
+
+  -- so that no whole frame is left.
+  pub rest-none : Roomy input out → StartsWhole (drop (result .0 .consumed) input) → ⊥
+  rest-none roomy = none-left (result .0 .stop) (drop (result .0 .consumed) input) (length out - result .0 .written) (right .stop-right) (room-left roomy)
 
   few : (StartsWhole (drop (result .0 .consumed) input) → ⊥) → (result .0 .stop ≡ BadLength) ⊎ ((result .0 .stop ≡ MoreInput) × (length (drop (result .0 .consumed) input) < longestFrame))
   few = few-left (result .0 .stop) (drop (result .0 .consumed) input) (length out - result .0 .written) (right .stop-right)

@@ -100,7 +100,7 @@ module _ (ticket : Ticket) (fits : SlotFits ticket) where
   settled-fits Viewed found =
       let more = ticket .done + 1 in
       ends-or-goes-on (eqb more (ticket .claimed)) (Seen (valuesSeen ticket)) (Returned more) Viewed (ticket .claimed) more
-  settled-fits NoTicket found = given-back-fits
+  settled-fits NoTicket found = fits
 
   step-fits : (words : Words) (team : ℕ) → SlotFits (stepOf words ticket team .0 .ticket)
   unfolding stepOf settled

@@ -37,7 +37,7 @@ use Rattle.calls.specs.declared.Aim.the-variants as Aim
 use Rattle.calls.specs.declared.Settled.{Settled}
 use Rattle.calls.specs.Call.{bookLengthWrong, outputShort, teamUnknown, ownTicketBadlyMade, opensOverTicket, stepWithoutTicket, refusalChecks, refusalOf, Done, done, requestDone, refusedOr, doneOf}
 use Rattle.calls.proofs.Refusing.{firstFrom}
-use Rattle.calls.specs.Way.{aimBy, aimOf, slotOf, settled, lookSettled, openSettled, viewSettled, newSettled, teamSettled, settledBy, wayDone, wayOf, WayIsCall}
+use Rattle.calls.specs.Way.{aimBy, aimOf, slotOf, settledWith, lookSettled, openSettled, viewSettled, newSettled, teamSettled, settledBy, wayDone, wayOf, WayIsCall}
 
 -- The tests from refusal 6 on, and what a request comes to by them.
 abbrev laterTests : Tickets → Request → List Bool
@@ -67,7 +67,7 @@ look-way words tickets word = go (ltb word wordsInBook)
   where
     go : (inside : Bool)
         → refusedOr (firstFrom 6 (false ∷ false ∷ false ∷ false ∷ not inside ∷ false ∷ [])) words tickets (Look word)
-        ≡ wayDone tickets 0 (settled (ticketOf tickets 0) (cond inside (Answer.Look (lookOf words word)) (Answer.Refused 10)), words)
+        ≡ wayDone tickets 0 (settledWith (ticketOf tickets 0) (cond inside (Answer.Look (lookOf words word)) (Answer.Refused 10)), words)
     go true = slot-kept tickets 0 (Answer.Look (lookOf words word)) words
     go false = slot-kept tickets 0 (Answer.Refused 10) words
 

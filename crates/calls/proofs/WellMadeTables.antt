@@ -33,7 +33,7 @@ use Rattle.frames.proofs.Bytes.{first-byte, bytes-after}
 use Rattle.calls.specs.declared.Aim.{Aim}
 use Rattle.calls.specs.declared.Aim.the-variants as Aim
 use Rattle.calls.specs.declared.Settled.{Settled}
-use Rattle.calls.specs.Way.{AimKnown, SlotWellMade, TableWellMade, slotWellMade, wellMadeFrom, settled, lookSettled, openSettled, viewSettled, stepSettled, newSettled, teamSettled, settledBy}
+use Rattle.calls.specs.Way.{AimKnown, SlotWellMade, TableWellMade, slotWellMade, wellMadeFrom, settledWith, lookSettled, openSettled, viewSettled, stepSettled, newSettled, teamSettled, settledBy}
 use Rattle.calls.proofs.Refusing.{named-many, fine-view}
 
 -- Bytes one by one, and the first of them.
@@ -145,8 +145,8 @@ team-well-made words ticket part kind team fields bytes sound = go (hasTicket (t
   where
     go : (stands made step view : Bool) → wellMade ticket ≡ made → cond view (ViewFields part) (length part ≡ lengthOfKind kind - 2)
         → SlotWellMade ((cond {A = Settled × Words} stands
-        (cond made (cond step (stepSettled (stepOf words ticket team)) (settled ticket (Answer.Refused 8), words)) (settled ticket (Answer.Refused 7), words))
-        (cond step (settled ticket (Answer.Refused 9), words)
+        (cond made (cond step (stepSettled (stepOf words ticket team)) (settledWith ticket (Answer.Refused 8), words)) (settledWith ticket (Answer.Refused 7), words))
+        (cond step (settledWith ticket (Answer.Refused 9), words)
         (cond view (viewSettled ticket (viewRead (number16 part 2) (viewWordsIn part))) (openSettled ticket (editRead (editOfKind kind part))), words))) .0 .ticket)
     go true true true view m f = step-well-made words ticket team m
     go true true false view m f = sound

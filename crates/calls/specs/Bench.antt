@@ -27,9 +27,9 @@ pub data Example : Type 0 where
   stream : (asked : List Request) (answered : List Answer) → Example
 
 -- The one property, of bytes where the example is a stream.
-abbrev pub Holds : Example → Type 0
-Holds (figure found expected) = found ≡ expected
-Holds (stream asked answered) = surveyOf (joined (map requestFrame asked)) ≡ joined (map answerFrame answered)
+abbrev pub ExampleHolds : Example → Type 0
+ExampleHolds (figure found expected) = found ≡ expected
+ExampleHolds (stream asked answered) = surveyOf (joined (map requestFrame asked)) ≡ joined (map answerFrame answered)
 
 -- "That leg", of the whole case: 1 to 2, 5,000 mm, 90.00°, −1.50°.
 abbrev pub stations : Stations
@@ -87,7 +87,7 @@ table =
 
 -- Statement: the property, over the table.
 abbrev pub BenchExamples : Type 0
-BenchExamples = Every Holds table
+BenchExamples = Every ExampleHolds table
 
 -- "Whole case": the frame of the add, and of a step.
 abbrev pub addFrame : Bytes

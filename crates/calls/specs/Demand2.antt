@@ -1,11 +1,16 @@
--- Demand 2: "Each edit opens exactly the ticket of document 01, each step is one conditional swap of the published method, each look one of its reads."
+-- Demand 2: "Each edit opens exactly the ticket of document 01, each step is one conditional swap of the published method, each look one of its reads, over that paper's words, ranks and frames; a leg written into words reads out as the same leg, and only words of a leg read as one."
 use mathlib.Core.Path.{_≡_}
+use mathlib.Core.Bool.{cond}
 use mathlib.Core.Option.{none}
 use lib.ListN.{length}
-use Rattle.words.specs.Words.{Words, swapOf}
+use Rattle.words.specs.Words.{Words, isHeld, readOf, swapOf}
+use Rattle.legs.specs.Positions.{FixedRanksArePermutation, PositionsDiffer}
+use Rattle.legs.specs.Reading.{LegsReadBack, OnlyLegsRead}
 use Rattle.tickets.specs.declared.Tickets.{Tickets}
+use Rattle.tickets.specs.declared.LookAnswer.the-variants.{Held, Value}
 use Rattle.tickets.specs.Tickets.{ticketOf, withTicket}
-use Rattle.tickets.specs.Steps.{swapTried, settled, lookOf}
+use Rattle.tickets.specs.Steps.{swapTried, settled}
+use Rattle.tickets.specs.Swapping.{StepSwapsOneWord, ViewsTakeAnyValue, WaitingTellsHolder}
 use Rattle.edits.specs.Opened.{targetCount, openedTicket}
 use Rattle.edits.specs.Views.{openedView}
 use Rattle.frames.specs.Request.{Request, Open, Step, Look, View}
@@ -13,11 +18,13 @@ use Rattle.frames.specs.declared.Answer.{Answer}
 use Rattle.frames.specs.declared.Answer.the-variants as Answer
 use Rattle.frames.specs.Numbers.{Bytes}
 use Rattle.frames.specs.Requests.{requestIn}
+use Rattle.frames.specs.Writing.{RequestsReadBack}
 use Rattle.frames.specs.Answers.{answerFrame, written}
+use Rattle.frames.specs.Reading.{AnswersReadBack}
 use Rattle.calls.specs.Call.{refusalOf, Done, doneOf, callOf}
 
 -- The words and the tickets that a call leaves, and its answer.
-pub record Leaves (result : Done) (words : Words) (tickets : Tickets) (answer : Answer) : Type 0 where
+pub record ResultIs (result : Done) (words : Words) (tickets : Tickets) (answer : Answer) : Type 0 where
   pub words-left : result .words ≡ words
   pub tickets-left : result .tickets ≡ tickets
   pub answered : result .answer ≡ answer
@@ -25,18 +32,20 @@ pub record Leaves (result : Done) (words : Words) (tickets : Tickets) (answer : 
 -- What each request does to words and tickets, and what it answers.
 abbrev pub Does : Words → Tickets → Request → Done → Type 0
 -- An edit opens its ticket and changes no word.
-Does words tickets (Open team edit) result = Leaves result words (withTicket tickets team (openedTicket edit)) (Answer.Standing (targetCount edit))
--- A step is one conditional swap, the one that the ticket tries; the word that it found settles the ticket and the answer.
+Does words tickets (Open team edit) result = ResultIs result words (withTicket tickets team (openedTicket edit)) (Answer.Standing (targetCount edit))
+-- A step is one conditional swap (Figure 7, line 5, 12 or 14: `swapTriedIn`), the one that the ticket tries; the word that it found settles the ticket and the answer. A view's claiming swap is one too (request 1): it "takes any value below 2^63 and else waits" (`views-take-any`).
 Does words tickets (Step team) result =
     let ticket = ticketOf tickets team in
     let tried = swapTried words ticket team in
     let swap = swapOf words (tried .word) (tried .expected) (tried .desired) in
     let after = settled ticket (swap .found) in
-    Leaves result (swap .words) (withTicket tickets team (after .ticket)) (Answer.Step (after .answer))
--- A look is one read and changes nothing.
-Does words tickets (Look word) result = Leaves result words tickets (Answer.Look (lookOf words word))
+    ResultIs result (swap .words) (withTicket tickets team (after .ticket)) (Answer.Step (after .answer))
+-- A look is one read (Figure 8, line 2) and changes nothing: a mark is Held, and a value is told.
+Does words tickets (Look word) result =
+    let found = readOf words word in
+    ResultIs result words tickets (Answer.Look (cond (isHeld found) Held (Value found)))
 -- A view opens its ticket and changes no word.
-Does words tickets (View team n named) result = Leaves result words (withTicket tickets team (openedView named)) (Answer.Standing (length named))
+Does words tickets (View team n named) result = ResultIs result words (withTicket tickets team (openedView named)) (Answer.Standing (length named))
 
 -- The call leaves the words and the tickets of what was done, and writes the answer's frame.
 pub record CallGives (words : Words) (tickets : Tickets) (frame out : Bytes) (result : Done) : Type 0 where
@@ -45,9 +54,27 @@ pub record CallGives (words : Words) (tickets : Tickets) (frame out : Bytes) (re
   pub output : (callOf words tickets frame out .0 .written, callOf words tickets frame out .2) ≡ written out (answerFrame (result .answer))
 
 -- Statement: for every book, table and frame that is not refused, the frame's request does that, and so does the call.
-abbrev pub Demand2 : Type 0
-Demand2 =
+abbrev pub CallsDo : Type 0
+CallsDo =
     (words : Words) (tickets : Tickets) (frame out : Bytes) (request : Request)
     → refusalOf words tickets frame out ≡ none → requestIn frame ≡ request
     → let result = doneOf words tickets frame out in
     Does words tickets request result × CallGives words tickets frame out result
+
+-- Statement: all of demand 2.
+pub record Demand2 : Type 0 where
+  -- Each edit opens its ticket, each step is one swap, each look one read.
+  pub calls-do : CallsDo
+  -- That one swap changes no other word, and its own exactly where it is as expected; a view's takes any value; Waiting tells the holder that it reports.
+  pub steps-swap-one : StepSwapsOneWord
+  pub views-take-any : ViewsTakeAnyValue
+  pub waiting-tells : WaitingTellsHolder
+  -- The ranks are a permutation, and so no two words share a position.
+  pub ranks-permute : FixedRanksArePermutation
+  pub positions-differ : PositionsDiffer
+  -- A frame reads back as the request or the answer that was written.
+  pub requests-read : RequestsReadBack
+  pub answers-read : AnswersReadBack
+  -- A leg written into words reads out as the same leg, and only words of a leg read as one.
+  pub legs-read : LegsReadBack
+  pub only-legs-read : OnlyLegsRead

@@ -1,5 +1,4 @@
 pub mod Call
-pub mod Way
 pub mod Run
 pub mod Order
 pub mod Linearizable
@@ -8,5 +7,7 @@ pub mod Demand1
 pub mod Demand2
 pub mod Survey
 pub mod Stream
+pub mod SurveyDemand3
 pub mod Pieces
 pub mod Bench
+pub mod Way

@@ -2,20 +2,20 @@
 use Prim.Native.Nat.{ℕ, _+_, _*_, _<_, min}
 use mathlib.Core.Path.{_≡_}
 use mathlib.Core.List.{List, [], _∷_, _++_, map}
-use mathlib.Core.Bool.{false, cond}
+use mathlib.Core.Bool.{Bool, true, false, cond}
 use mathlib.Core.Option.{Option, none, some}
 use mathlib.Core.Logic.{_⊎_}
 use lib.ListN.{length}
 use Rattle.words.specs.Words.{Words, wordsInBook, readOf, markOf}
-use Rattle.tickets.specs.Tickets.{ticketOf}
+use Rattle.tickets.specs.Tickets.{ticketOf, hasTicket}
 use Rattle.tickets.specs.Steps.{mostTries}
 use Rattle.tickets.specs.Targets.{targetIn}
 use Rattle.edits.specs.declared.Edit.{Edit}
-use Rattle.edits.specs.Opened.{storedTargets}
 use Rattle.plain.specs.Plain.{Plain, freshPlain, wordOf, legsInBook, Sound}
 use Rattle.plain.specs.Editing.{succeeds, attempt, addsIn, strikesIn}
+use Rattle.calls.specs.Order.{claimOrder}
 use Rattle.calls.specs.Call.{bookLengthWrong, badlyMade}
-use Rattle.calls.specs.Run.{Call, OfBytes, Heard, run}
+use Rattle.calls.specs.Run.{Call, OfBytes, Heard, Run, run}
 use Rattle.calls.specs.Order.{Verdict, granted, stale, Event, decided, looked, seen, reserved, Asked, anEdit, aView, countAsked, Decision, Noted, Last, wasGranted, wasStale, wasSeen, Ended, order, ended, notesOn, HeldBy}
 
 -- What the plain book is fed: an edit to try, a word to look at, or words to see together. Neither a verdict nor a value that was heard.
@@ -67,8 +67,8 @@ DecisionRight edit decision = decision .verdict ≡ verdictOf (play (decision .b
 
 -- A word that was named as the one that differed: that of the target after those claimed, whose plain word at the decision is not the quoted value.
 pub record Differed (edit : Edit) (ticket : Noted) (decision : Decision) (word : ℕ) : Type 0 where
-  pub named : word ≡ targetIn (storedTargets edit) (length (ticket .claimed)) .word
-  pub differs : wordOf (play (decision .before)) word ≡ targetIn (storedTargets edit) (length (ticket .claimed)) .quoted → ⊥
+  pub named : word ≡ targetIn (claimOrder (anEdit edit)) (length (ticket .claimed)) .word
+  pub differs : wordOf (play (decision .before)) word ≡ targetIn (claimOrder (anEdit edit)) (length (ticket .claimed)) .quoted → ⊥
 
 -- Stale repeats the word that Found named; where no Found came, nothing was claimed.
 abbrev pub Repeats : Option ℕ → ℕ → List ℕ → Type 0
@@ -128,6 +128,11 @@ abbrev pub StandingRight : Option Noted → Type 0
 StandingRight none = Unit {0}
 StandingRight (some ticket) = DecidedAtMostOnce (ticket .asked) ticket
 
+-- A ticket stands where one is noted, and nowhere else.
+abbrev pub StandsAsNoted : Bool → Option Noted → Type 0
+StandsAsNoted stands none = stands ≡ false
+StandsAsNoted stands (some ticket) = stands ≡ true
+
 -- A last answer tells these tries; a view's tells none.
 abbrev pub TellsTries : Last → ℕ → Type 0
 TellsTries (wasGranted tries) steps = tries ≡ steps
@@ -161,43 +166,47 @@ plainAfter calls = play (orderOf calls)
 abbrev pub bookAfter : List Call → Words
 bookAfter calls = run calls .end .book
 
--- Of a list of calls: the order of what was heard is one of whole edits, looks and views, done one after another on the plain book.
-pub record Linearizable (calls : List Call) : Type 0 where
-  -- Every ticket decided as granted succeeds on the plain book at its turn, and every one decided as stale doesn't.
+-- Of a run, what was heard and what it left: the order of what was heard is one of whole edits, looks and views, done one after another on the plain book.
+pub record Linearizable (result : Run) : Type 0 where
+  -- "Exactly the granted tickets succeed there, and exactly the stale ones come out stale."
   pub granted-succeed : (before after : List Event) (verdict : Verdict) (edit : Edit)
-      → orderOf calls ≡ before ++ (decided verdict edit ∷ after)
+      → order (result .heard) ≡ before ++ (decided verdict edit ∷ after)
       → verdict ≡ verdictOf (play before) edit
-  -- Every value looked at is the plain book's word at that turn.
+  -- "Every value looked at is the plain book's word at that look's turn."
   pub looks-agree : (before after : List Event) (word value : ℕ)
-      → orderOf calls ≡ before ++ (looked word value ∷ after)
+      → order (result .heard) ≡ before ++ (looked word value ∷ after)
       → value ≡ wordOf (play before) word
-  -- Every finished view shows the plain book's words at its turn, which is that of its last claim.
+  -- (Request 1) "A finished view takes its place at its last claim and shows the plain book's words of that moment."
   pub views-agree : (before after : List Event) (words values : List ℕ)
-      → orderOf calls ≡ before ++ (seen words values ∷ after)
+      → order (result .heard) ≡ before ++ (seen words values ∷ after)
       → values ≡ map (wordOf (play before)) words
-  -- Every word that no ticket holds is the plain book's.
+  -- "Every word of the shared book that no ticket holds equals the same word of the plain book when all of them are done."
   pub words-agree : (word : ℕ)
       → word < wordsInBook
-      → ((team : ℕ) → ¬ HeldBy (heardOn calls) team word)
-      → readOf (bookAfter calls) word ≡ wordOf (plainAfter calls) word
-  -- A ticket's last answer, once it has come, is Granted if its edit succeeded and Stale if not, a view's the values; no ticket is decided twice or ends undecided.
-  pub last-answers : Every EndedRight (ended (heardOn calls))
-  -- A ticket still standing is decided at most once, and Found named the word that differed; a view never is.
-  pub decided-once : (team : ℕ) → StandingRight (notesOn (heardOn calls) .tickets team)
+      → ((team : ℕ) → ¬ HeldBy (result .heard) team word)
+      → readOf (result .end .book) word ≡ wordOf (play (order (result .heard))) word
+  -- "Demand 3 adds: a decided ticket's last answer, once it has come, is Granted if the edit succeeds on the plain book and Stale if not"; a view's is the values. Beyond that, no
+  -- ticket is decided twice or ends undecided (`once`), and Stale names the word that differed (`fits`).
+  pub last-answers : Every EndedRight (ended (result .heard))
+  -- (Beyond the papers) A ticket still standing is decided at most once, and Found named the word that differed; a view never is.
+  pub decided-once : (team : ℕ) → StandingRight (notesOn (result .heard) .tickets team)
   -- The counts of all passages sum to granted adds less granted strikes.
-  pub counts-add-up : legsInBook (plainAfter calls) + grantedOf strikesIn (orderOf calls) ≡ grantedOf addsIn (orderOf calls)
+  pub counts-add-up : legsInBook (play (order (result .heard))) + grantedOf strikesIn (order (result .heard)) ≡ grantedOf addsIn (order (result .heard))
   -- A word that a ticket holds is its team's mark, so that no word too many is taken for held.
-  pub held-marked : (team word : ℕ) → HeldBy (heardOn calls) team word → readOf (bookAfter calls) word ≡ markOf team
+  -- (This field and all that follow go beyond the papers.)
+  pub held-marked : (team word : ℕ) → HeldBy (result .heard) team word → readOf (result .end .book) word ≡ markOf team
   -- The plain book keeps its rules: all in range, from other than to, no number twice.
-  pub plain-sound : Sound (plainAfter calls)
+  pub plain-sound : Sound (play (order (result .heard)))
   -- The book stays whole and every team's ticket well made, so that refusals 1 and 7 never come.
-  pub stays-whole : bookLengthWrong (bookAfter calls) ≡ false
-  pub stays-well-made : (team : ℕ) → badlyMade (ticketOf (run calls .end .tickets) team) ≡ false
+  pub stays-whole : bookLengthWrong (result .end .book) ≡ false
+  pub stays-well-made : (team : ℕ) → badlyMade (ticketOf (result .end .tickets) team) ≡ false
   -- A last answer's tries are the steps answered; a granted ticket's are 2n plus its waits.
-  pub tries-add-up : Every TriesRight (ended (heardOn calls))
+  pub tries-add-up : Every TriesRight (ended (result .heard))
   -- Every call was answered by an answer that fits its frame, no Standing came over a ticket and no step's answer without one.
-  pub in-turn : notesOn (heardOn calls) .outOfTurn ≡ 0
+  pub in-turn : notesOn (result .heard) .outOfTurn ≡ 0
+  -- A ticket stands in the table exactly where one is noted: where none stands, every ticket has had its last answer.
+  pub noted-stand : (team : ℕ) → StandsAsNoted (hasTicket (ticketOf (result .end .tickets) team .phase)) (notesOn (result .heard) .tickets team)
 
 -- Statement: "It is a single claim about the list, not one for each call."
 abbrev pub Demand3 : Type 0
-Demand3 = (calls : List Call) → Every OfBytes calls → Linearizable calls
+Demand3 = (calls : List Call) → Every OfBytes calls → Linearizable (run calls)

@@ -12,9 +12,12 @@ use Rattle.tickets.specs.declared.StepAnswer.{StepAnswer}
 use Rattle.tickets.specs.declared.StepAnswer.the-variants.{Claimed, Waiting, Found, Put, Returned, Granted, Stale, Seen}
 use Rattle.tickets.specs.declared.LookAnswer.{LookAnswer}
 use Rattle.tickets.specs.declared.LookAnswer.the-variants.{Value, Held}
+use Rattle.tickets.specs.declared.Target.{Target}
+use Rattle.tickets.specs.Tickets.{target}
 use Rattle.edits.specs.declared.Edit.{Edit}
-use Rattle.edits.specs.Opened.{storedTargets, targetCount}
-use Rattle.edits.specs.Views.{claimedWords}
+use Rattle.legs.specs.Positions.{positionOf}
+use Rattle.edits.specs.Edits.{listedTargets}
+use Rattle.edits.specs.Opened.{orderedBy, targetCount}
 use Rattle.frames.specs.Request.{Request, Open, Step, Look, View}
 use Rattle.frames.specs.declared.Answer.{Answer}
 use Rattle.frames.specs.declared.Answer.the-variants as Answer
@@ -34,7 +37,7 @@ pub data Event : Type 0 where
   seen : (words values : List ℕ) → Event
   reserved : (team : ℕ) → Event
 
--- "An unfinished one has no place": a place that is only reserved is left out.
+-- A view that is not finished has no place: one that is only reserved is left out.
 unfoldable pub finished : List Event → List Event
 finished [] = []
 finished (decided verdict edit ∷ events) = decided verdict edit ∷ finished events
@@ -47,16 +50,24 @@ pub data Asked : Type 0 where
   anEdit : Edit → Asked
   aView : (words : List ℕ) → Asked
 
--- Its words in the order in which they are claimed, and how many targets it has.
+-- Its targets as its frame gives them; a view quotes nothing.
+abbrev pub targetsAsked : Asked → List Target
+targetsAsked (anEdit edit) = listedTargets edit
+targetsAsked (aView words) = map (λ word. target word 0 0) words
+
+-- "Targets are claimed by rising position": by the frame alone, whatever a ticket stores.
+abbrev pub claimOrder : Asked → List Target
+claimOrder asked = orderedBy positionOf (targetsAsked asked)
+
+-- Its words in that order, and how many targets it has.
 abbrev pub wordsAsked : Asked → List ℕ
-wordsAsked (anEdit edit) = map (λ target. target .word) (storedTargets edit)
-wordsAsked (aView words) = claimedWords words
+wordsAsked asked = map (λ target. target .word) (claimOrder asked)
 
 abbrev pub countAsked : Asked → ℕ
 countAsked (anEdit edit) = targetCount edit
 countAsked (aView words) = length words
 
--- A decision of an edit's ticket: what it was, and the order before it.
+-- A decision of an edit's ticket: what it was, and the order before it as it stood then. A place in it that is filled later changes no plain book.
 pub record Decision : Type 0 where
   pub verdict : Verdict
   pub before : List Event
@@ -95,6 +106,8 @@ pub record Notes : Type 0 where
   pub order : List Event
   pub tickets : ℕ → Option Noted
   pub ended : List Ended
+  -- (An edit's ticket can't get Seen; a view can't get Found, Put, Granted or Stale, nor Seen before its last claim. An answer of the right kind
+  -- at a wrong moment, as Put while an edit claims, is not counted: like Waiting while the word is free, demand 2's step rule forbids it.)
   pub outOfTurn : ℕ
 
 abbrev pub notes : List Event → (ℕ → Option Noted) → List Ended → ℕ → Notes
@@ -195,13 +208,18 @@ abbrev pub hearPut : Notes → ℕ → Noted → Asked → ℕ → Notes
 hearPut n team ticket (anEdit edit) k = noteTicket n team (withReleased k ticket)
 hearPut n team ticket (aView words) k = noteOutOfTurn n
 
+-- An edit is granted; a view can't get this answer.
+abbrev pub hearGranted : Notes → ℕ → Noted → Asked → Last → Notes
+hearGranted n team ticket (anEdit edit) last = noteEnd n team (endedBy ticket last)
+hearGranted n team ticket (aView words) last = noteOutOfTurn n
+
 abbrev pub hearStepAnswer : Notes → ℕ → Noted → StepAnswer → Notes
 hearStepAnswer n team ticket (Claimed k) = hearClaimed n team ticket k
 hearStepAnswer n team ticket (Waiting word holder) = noteTicket n team (withWait ticket)
 hearStepAnswer n team ticket (Found word) = decide n team stale (withFound word ticket) (ticket .asked)
 hearStepAnswer n team ticket (Put k) = hearPut n team ticket (ticket .asked) k
 hearStepAnswer n team ticket (Returned k) = noteTicket n team (withReleased k ticket)
-hearStepAnswer n team ticket (Granted tries) = noteEnd n team (endedBy ticket (wasGranted tries))
+hearStepAnswer n team ticket (Granted tries) = hearGranted n team ticket (ticket .asked) (wasGranted tries)
 hearStepAnswer n team ticket (Stale word tries) = hearStale n team ticket (ticket .asked) (ticket .found) (wasStale word tries)
 hearStepAnswer n team ticket (Seen values) = hearSeen n team ticket (ticket .asked) (ticket .place) (valuesShown values)
 

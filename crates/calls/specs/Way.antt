@@ -69,31 +69,31 @@ slotOf (Aim.Refused number) = 0
 slotOf Aim.Look = 0
 slotOf (Aim.Team kind team) = team
 
-abbrev pub settled : Ticket → Answer → Settled
-settled ticket answer = record { ticket = ticket; answer = answer }
+abbrev pub settledWith : Ticket → Answer → Settled
+settledWith ticket answer = record { ticket = ticket; answer = answer }
 
 -- A look, or refusal 10.
 abbrev pub lookAnswer : Words → ℕ → Answer
 lookAnswer words word = cond (ltb word wordsInBook) (Answer.Look (lookOf words word)) (Answer.Refused 10)
 
 unfoldable pub lookSettled : Words → Ticket → ℕ → Settled
-lookSettled words ticket word = settled ticket (lookAnswer words word)
+lookSettled words ticket word = settledWith ticket (lookAnswer words word)
 
 -- An edit of a team without a ticket: the ticket that it opens, or refusal 10 or 11.
 unfoldable pub openSettled : Ticket → EditRead → Settled
-openSettled ticket (EditRead.Is edit) = settled (openedTicket edit) (Answer.Standing (targetCount edit))
-openSettled ticket (EditRead.Refused number) = settled ticket (Answer.Refused number)
+openSettled ticket (EditRead.Is edit) = settledWith (openedTicket edit) (Answer.Standing (targetCount edit))
+openSettled ticket (EditRead.Refused number) = settledWith ticket (Answer.Refused number)
 
 -- A view of a team without a ticket, likewise.
 abbrev pub readingSettled : Ticket → View → Reading → Settled
-readingSettled ticket view Reading.Is = settled (openedView (wordsNamed view)) (Answer.Standing (view .n))
-readingSettled ticket view (Reading.Refused number) = settled ticket (Answer.Refused number)
+readingSettled ticket view Reading.Is = settledWith (openedView (wordsNamed view)) (Answer.Standing (view .n))
+readingSettled ticket view (Reading.Refused number) = settledWith ticket (Answer.Refused number)
 
 unfoldable pub viewSettled : Ticket → ViewRead → Settled
 viewSettled ticket read = readingSettled ticket (read .view) (read .reading)
 
 abbrev pub stepSettled : Stepped × Words → Settled × Words
-stepSettled result = (settled (result .0 .ticket) (Answer.Step (result .0 .answer)), result .1)
+stepSettled result = (settledWith (result .0 .ticket) (Answer.Step (result .0 .answer)), result .1)
 
 -- One of the two, by the kind.
 unfoldable pub newSettled : Ticket → Bytes → ℕ → Settled
@@ -127,9 +127,9 @@ unfoldable pub teamSettled : Words → Ticket → Bytes → ℕ → ℕ → Sett
 teamSettled words ticket part kind team =
     cond (hasTicket (ticket .phase))
     (cond (wellMade ticket)
-    (cond (eqb kind stepKind) (stepSettled (stepOf words ticket team)) (settled ticket (Answer.Refused 8), words))
-    (settled ticket (Answer.Refused 7), words))
-    (cond (eqb kind stepKind) (settled ticket (Answer.Refused 9), words) (newSettled ticket part kind, words))
+    (cond (eqb kind stepKind) (stepSettled (stepOf words ticket team)) (settledWith ticket (Answer.Refused 8), words))
+    (settledWith ticket (Answer.Refused 7), words))
+    (cond (eqb kind stepKind) (settledWith ticket (Answer.Refused 9), words) (newSettled ticket part kind, words))
 
 -- Whether a frame steps an edit's ticket that is known to be well made,
 abbrev pub stepsEdit : Ticket → Bool → ℕ → Bool
@@ -141,7 +141,7 @@ opensEdit ticket kind = cond (ltb kind stepKind) (not (hasTicket (ticket .phase)
 
 -- What an aimed frame makes of the ticket in its slot and of the words, and its answer.
 unfoldable pub settledBy : Words → Ticket → Bytes → Aim → Settled × Words
-settledBy words ticket frame (Aim.Refused number) = (settled ticket (Answer.Refused number), words)
+settledBy words ticket frame (Aim.Refused number) = (settledWith ticket (Answer.Refused number), words)
 settledBy words ticket frame Aim.Look = (lookSettled words ticket (number16 (partAfterKind frame) 0), words)
 settledBy words ticket frame (Aim.Team kind team) = teamSettled words ticket (partAfterKind frame) kind team
 

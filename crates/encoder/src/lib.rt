@@ -68,7 +68,7 @@ fn write_short(out: &mut [u8], kind: u16, x: u16) -> usize
     requires { ⌜ longestAnswer ≤ length (now out) ⌝ }
     ensures { λ r. ⌜ (r, now (out .exit)) ≡ written (now (out .entry)) (frameOf kind (bytes16 x)) ⌝ }
 {
-    let count = put_head(out, kind, 2);
+    let count = put_head(out, kind, Frame::FIELD);
     put16(out, Frame::HEAD, x);
     count
 }
@@ -89,7 +89,7 @@ fn write_long(out: &mut [u8], kind: u16, x: u32) -> usize
     requires { ⌜ longestAnswer ≤ length (now out) ⌝ }
     ensures { λ r. ⌜ (r, now (out .exit)) ≡ written (now (out .entry)) (frameOf kind (bytes32 x)) ⌝ }
 {
-    let count = put_head(out, kind, 4);
+    let count = put_head(out, kind, Frame::LONG);
     put32(out, Frame::HEAD, x);
     count
 }
@@ -99,7 +99,7 @@ fn write_short_and_long(out: &mut [u8], kind: u16, x: u16, y: u32) -> usize
     requires { ⌜ longestAnswer ≤ length (now out) ⌝ }
     ensures { λ r. ⌜ (r, now (out .exit)) ≡ written (now (out .entry)) (frameOf kind (bytes16 x ++ bytes32 y)) ⌝ }
 {
-    let count = put_head(out, kind, 6);
+    let count = put_head(out, kind, Frame::FIELD_AND_LONG);
     put16(out, Frame::HEAD, x);
     put32(out, Frame::HEAD + Frame::FIELD, y);
     count
@@ -110,7 +110,7 @@ fn write_longest(out: &mut [u8], kind: u16, x: u64) -> usize
     requires { ⌜ longestAnswer ≤ length (now out) ⌝ }
     ensures { λ r. ⌜ (r, now (out .exit)) ≡ written (now (out .entry)) (frameOf kind (bytes64 x)) ⌝ }
 {
-    let count = put_head(out, kind, 8);
+    let count = put_head(out, kind, Frame::VALUE);
     put64(out, Frame::HEAD, x);
     count
 }

@@ -72,12 +72,12 @@ lengthOfKind kind =
 abbrev pub lengthOfView : ℕ → ℕ
 lengthOfView words = 6 + 2 * words
 
--- View (length even, 8 to 18: one to six words); every other kind has one length.
+-- Whether a length field is one of a kind: View (even, 8 to 18: one to six words); every other kind has one length.
 unfoldable pub lengthFits : ℕ → ℕ → Bool
-lengthFits kind length =
+lengthFits kind field =
     cond (eqb kind viewKind)
-    (allHold (within (lengthOfView 1) (lengthOfView mostTargets) length ∷ eqb (length % 2) 0 ∷ []))
-    (eqb length (lengthOfKind kind))
+    (allHold (within (lengthOfView 1) (lengthOfView mostTargets) field ∷ eqb (field % 2) 0 ∷ []))
+    (eqb field (lengthOfKind kind))
 
 -- from to.
 abbrev pub stationsAt : Bytes → ℕ → Stations

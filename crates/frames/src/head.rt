@@ -7,6 +7,7 @@ ghost use Rattle.frames.specs.Fields.{headerOf, WholeIfKnown, isStep};
 use crate::Frame;
 use crate::Header;
 use crate::Kind;
+use crate::Length;
 use crate::Refusal;
 use crate::numbers::read16;
 use crate::numbers::read32;
@@ -25,12 +26,12 @@ fn length_of_kind(kind: u16) -> u16
     ensures { λ r. ⌜ r ≡ lengthOfKind kind ⌝ }
 {
     match kind {
-        Kind::ADD => 24,
-        Kind::CORRECT => 28,
-        Kind::STRIKE => 26,
-        Kind::MOVE => 24,
-        Kind::STEP => 4,
-        Kind::LOOK => 4,
+        Kind::ADD => Length::ADD,
+        Kind::CORRECT => Length::CORRECT,
+        Kind::STRIKE => Length::STRIKE,
+        Kind::MOVE => Length::MOVE,
+        Kind::STEP => Length::STEP,
+        Kind::LOOK => Length::LOOK,
         _ => 0,
     }
 }

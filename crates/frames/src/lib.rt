@@ -1,4 +1,5 @@
 // Frames: what is read from a frame and what answers it, as types; numbers in bytes, and a frame's head.
+use crate::numbers::Bits;
 use edits::Edit;
 use edits::View;
 use legs::Measure;
@@ -81,19 +82,25 @@ impl Frame {
     // A field of 16 bits, as the length and the kind are.
     pub const FIELD: usize = 2;
 
+    // A field of 32 bits, as tries and a distance are.
+    pub const LONG: usize = 4;
+
+    // A field of each, as a word and tries are.
+    pub const FIELD_AND_LONG: usize = Frame::FIELD + Frame::LONG;
+
     // A value, of 64 bits.
     pub const VALUE: usize = 8;
 
     // The length and the kind.
-    pub const HEAD: usize = 4;
+    pub const HEAD: usize = Frame::FIELD + Frame::FIELD;
 
-    // A step's, with the team as its only field; and its first four bytes, as one number.
-    pub const STEP: usize = Frame::HEAD + Frame::FIELD;
+    // A step's; and its first four bytes, as one number.
+    pub const STEP: usize = Frame::FIELD + Length::STEP as usize;
 
-    pub const STEP_HEAD: u32 = (Frame::STEP - Frame::FIELD) as u32 + 65536 * (Kind::STEP as u32);
+    pub const STEP_HEAD: u32 = Length::STEP as u32 + Bits::TWO_BYTES * (Kind::STEP as u32);
 
     // What a view's length counts beside its words: kind, team and n.
-    pub const BEFORE_WORDS: usize = 6;
+    pub const BEFORE_WORDS: usize = 3 * Frame::FIELD;
 
     pub const LONGEST: usize = 64;
 }
@@ -101,6 +108,29 @@ impl Frame {
 impl Answer {
     // The bytes of the longest answer's frame, which an output must have room for.
     pub const LONGEST: usize = Frame::HEAD + Frame::VALUE * Limits::TARGETS;
+}
+
+// What the length field of each kind says: the bytes of the kind, which counts as a field, of the other fields, and of measures.
+pub struct Length {}
+
+impl Length {
+    const FIELD: u16 = Frame::FIELD as u16;
+
+    // Distance, compass and clino.
+    const MEASURE: u16 = Frame::LONG as u16 + 2 * Length::FIELD;
+
+    pub const ADD: u16 = 8 * Length::FIELD + Length::MEASURE;
+
+    pub const CORRECT: u16 = 6 * Length::FIELD + 2 * Length::MEASURE;
+
+    pub const STRIKE: u16 = 9 * Length::FIELD + Length::MEASURE;
+
+    pub const MOVE: u16 = 12 * Length::FIELD;
+
+    // The team, or the word, is the only other field.
+    pub const STEP: u16 = 2 * Length::FIELD;
+
+    pub const LOOK: u16 = 2 * Length::FIELD;
 }
 
 // The kinds of what is asked for.

@@ -2,7 +2,7 @@
 use Prim.Native.Nat.{ℕ, zero, suc, _≤_, _<_}
 use mathlib.Core.Path.{_≡_, refl, sym, ap, subst, _∙_}
 use mathlib.Core.Bool.{Bool, true, false, cond, false≢true}
-use mathlib.Core.List.{List, _∷_}
+use mathlib.Core.List.{List, _∷_, map}
 use mathlib.Core.Logic.{_≢_}
 use native.Mathlib.Omega.{arith}
 use native.Mathlib.Decide.{ℕ-discrete}
@@ -13,9 +13,12 @@ use Rattle.words.specs.Words.{teamCount}
 use Rattle.tickets.specs.declared.Tickets.{Tickets}
 use Rattle.tickets.specs.Tickets.{ticketOf, hasTicket}
 use Rattle.frames.specs.Answers.{longestAnswer}
+use Rattle.calls.specs.Run.{Shared, run}
 use Rattle.calls.specs.Linearizable.{Every}
-use Rattle.progress.specs.Rounds.{Turn, teamsIn, Stands, turnsBelow, ThereIsARound}
+use Rattle.calls.specs.Demand1.{TableFits}
 use Rattle.calls.proofs.Tables.{standing-inside}
+use Rattle.calls.proofs.Demand3.{tables-run, run-table}
+use Rattle.progress.specs.Rounds.{Turn, stepCall, teamsIn, Stands, turnsBelow, afterRound, RoundsFrom, roundsOn, ThereIsARound, ThereAreRounds}
 
 module _ (table : Tickets) where
   -- Such turns of the teams below n.
@@ -65,3 +68,15 @@ there-is-a-round table teams =
       once = below .once;
       all = λ team stands. below .all team (standing-inside table teams team stands) stands;
     }
+
+-- A round leaves a table, so that there is another one after it.
+rounds-on : (many : ℕ) (shared : Shared) → TableFits (shared .tickets) → (length (roundsOn many shared) ≡ many) × RoundsFrom shared (roundsOn many shared)
+unfolding roundsOn
+rounds-on zero shared table = (refl, tt)
+rounds-on (suc many) shared table =
+    let round = turnsBelow teamCount (shared .tickets) in
+    let later = rounds-on many (afterRound shared round) (tables-run (map stepCall round) shared table) in
+    (ap suc (later .0), (there-is-a-round (shared .tickets) (table .teams), later .1))
+
+pub there-are-rounds : ThereAreRounds
+there-are-rounds calls many = rounds-on many (run calls .end) (run-table calls)

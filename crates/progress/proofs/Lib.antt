@@ -5,4 +5,3 @@ pub mod Turning
 pub mod Ending
 pub mod Done
 pub mod Existing
-mod Examples

@@ -65,6 +65,19 @@ abbrev pub RoundsFrom : Shared → List (List Turn) → Type 0
 RoundsFrom shared [] = Unit {0}
 RoundsFrom shared (round ∷ rounds) = RoundFor (shared .tickets) round × RoundsFrom (afterRound shared round) rounds
 
+-- So many rounds, each of them that of `turnsBelow` for the tickets that then stand.
+unfoldable pub roundsOn : ℕ → Shared → List (List Turn)
+roundsOn zero shared = []
+roundsOn (suc many) shared =
+    let round = turnsBelow teamCount (shared .tickets) in
+    round ∷ roundsOn many (afterRound shared round)
+
+-- Statement: so after every list of calls there are as many rounds as one likes.
+abbrev pub ThereAreRounds : Type 0
+ThereAreRounds =
+    (calls : List Call) (many : ℕ)
+    → (length (roundsOn many (run calls .end)) ≡ many) × RoundsFrom (run calls .end) (roundsOn many (run calls .end))
+
 -- How many targets the standing tickets of the teams below n have together; and of all teams.
 unfoldable pub targetsBelow : ℕ → Tickets → ℕ
 targetsBelow zero tickets = 0
@@ -83,7 +96,7 @@ abbrev pub EveryTicketGetsDone : Type 0
 EveryTicketGetsDone =
     (calls : List Call) → Every OfBytes calls
     → (rounds : List (List Turn)) → RoundsFrom (run calls .end) rounds
-    → length rounds ≡ 2 * targetsStanding (run calls .end .tickets)
+    → 2 * targetsStanding (run calls .end .tickets) ≤ length rounds
     → NoneStands (afterRounds (run calls .end) rounds .tickets)
 
 -- Statement: "With no ticket it takes no round."

@@ -12,7 +12,7 @@ use Rattle.tickets.specs.declared.Ticket.{Ticket}
 use Rattle.tickets.specs.declared.SwapTried.{SwapTried}
 use Rattle.tickets.specs.Tickets.{targetAt, isView, wellMade}
 use Rattle.tickets.specs.Steps.{tries, advanced, stepped, claimed, put, givenBack, swapTriedIn, swapTried, settledIn, settled}
-use Rattle.tickets.specs.Going.{isClaiming, isPutting, nextOf, endOf, goesOn, wentOn, wentAnswer, GoingIsSettled}
+use Rattle.tickets.specs.Going.{isClaiming, isPutting, nextOf, endOf, continues, wentOn, wentAnswer, GoingIsSettled}
 use Rattle.tickets.proofs.Made.{made, CountsFit, counts-fit}
 use Rattle.tickets.proofs.Settled.{settled-claimed}
 
@@ -74,7 +74,7 @@ both true false on = (refl, refl)
 both false last on = absurd (false≢true on)
 
 goes-in : (phase : Phase) (words : Words) (ticket : Ticket) (team found : ℕ) → isView phase ≡ false → CountsFit phase (ticket .n) (ticket .claimed) (ticket .done)
-    → goesOn (inPhase phase ticket) (swapTriedIn phase words ticket team .expected) found ≡ true
+    → continues (inPhase phase ticket) (swapTriedIn phase words ticket team .expected) found ≡ true
     → stepped (wentOn (inPhase phase ticket)) (wentAnswer phase (nextOf (inPhase phase ticket) + 1)) ≡ settledIn phase ticket found
 goes-in NoTicket words ticket team found edit fit on = absurd fit
 goes-in Claiming words ticket team found edit fit on =

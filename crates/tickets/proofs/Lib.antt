@@ -1,5 +1,6 @@
 pub mod Made
 pub mod Settled
+pub mod Swapping
 pub mod Slots
 pub mod TargetLists
 pub mod Names

@@ -48,8 +48,8 @@ abbrev pub endOf : Ticket → ℕ
 endOf ticket = cond (isClaiming (ticket .phase)) (ticket .n + 1) (cond (isPutting (ticket .phase)) (ticket .n) (ticket .claimed))
 
 -- Its swap found what it expected, and it isn't the last: the way of most steps.
-abbrev pub goesOn : Ticket → ℕ → ℕ → Bool
-goesOn ticket expected found = cond (eqb found expected) (not (eqb (nextOf ticket + 1) (endOf ticket))) false
+abbrev pub continues : Ticket → ℕ → ℕ → Bool
+continues ticket expected found = cond (eqb found expected) (not (eqb (nextOf ticket + 1) (endOf ticket))) false
 
 -- The ticket with one more claimed, put or given back, where it goes on: with the n-th claim, over to putting.
 abbrev pub wentOn : Ticket → Ticket
@@ -73,5 +73,5 @@ abbrev pub GoingIsSettled : Type 0
 GoingIsSettled =
     (words : Words) (ticket : Ticket) (team found : ℕ)
     → wellMade ticket ≡ true → isView (ticket .phase) ≡ false
-    → goesOn ticket (swapTried words ticket team .expected) found ≡ true
+    → continues ticket (swapTried words ticket team .expected) found ≡ true
     → stepped (wentOn ticket) (wentAnswer (ticket .phase) (nextOf ticket + 1)) ≡ settled ticket found

@@ -24,15 +24,15 @@ use Rattle.tickets.specs.declared.Values.{Values}
 abbrev pub tries : ℕ → ℕ → ℕ → SwapTried
 tries word expected desired = record { word = word; expected = expected; desired = desired }
 
--- The swap that a step tries. (A team without a ticket takes no step: its case makes the definition total, with a swap that changes nothing.)
+-- The swap that a step tries: one of the three CAS of the source document's Figure 7, of one target t of the descriptor (Figure 6), which is the ticket; d_addr is the team's mark, t.addr the word, t.expected the quoted value and t.desired the new one. (A team without a ticket takes no step: its case makes the definition total, with a swap that changes nothing.)
 abbrev pub swapTriedIn : Phase → Words → Ticket → ℕ → SwapTried
--- Claiming, next target: if the word is the quoted value it becomes the team's mark.
+-- Claiming, next target, line 5, CAS(t.addr, t.expected, d_addr): if the word is the quoted value it becomes the team's mark.
 swapTriedIn Claiming words ticket team = let next = targetAt ticket (ticket .claimed) in tries (next .word) (next .quoted) (markOf team)
--- Putting: the next target gets its new value if it holds the team's mark and stays if not.
+-- Putting, line 12, CAS(t.addr, d_addr, t.desired): the next target gets its new value if it holds the team's mark and stays if not.
 swapTriedIn Putting words ticket team = let next = targetAt ticket (ticket .done) in tries (next .word) (markOf team) (next .new)
--- Giving back: likewise with the quoted value.
+-- Giving back, line 14, CAS(t.addr, d_addr, t.expected): likewise with the quoted value.
 swapTriedIn GivingBack words ticket team = let next = targetAt ticket (ticket .done) in tries (next .word) (markOf team) (next .quoted)
--- A view claiming: any value below 2^63 becomes the team's mark; giving back: as an edit.
+-- A view claiming, line 5 with the value that the word has for t.expected: any value below 2^63 becomes the team's mark. Giving back, line 14: as an edit.
 swapTriedIn Viewing words ticket team = let next = targetAt ticket (ticket .claimed) in tries (next .word) (anyValue (readOf words (next .word))) (markOf team)
 swapTriedIn Viewed words ticket team = let next = targetAt ticket (ticket .done) in tries (next .word) (markOf team) (next .quoted)
 swapTriedIn NoTicket words ticket team = tries 0 0 0
@@ -64,17 +64,17 @@ advanced ticket phase claimed done = record {
 abbrev pub stepped : Ticket → StepAnswer → Stepped
 stepped ticket answer = record { ticket = ticket; answer = answer }
 
--- The word is the quoted value (Claimed; with the n-th the ticket also goes over to putting, nothing done yet).
+-- The word is the quoted value (Claimed; with the n-th the ticket also goes over to putting, nothing done yet): in Figure 7 the next t of line 3, and after the last one line 10 with success true.
 abbrev pub claimed : Ticket → Stepped
 claimed ticket =
     let more = ticket .claimed + 1 in
     stepped (cond (eqb more (ticket .n)) (advanced ticket Putting more 0) (advanced ticket Claiming more (ticket .done))) (Claimed more)
 
--- It is 2^63 or more: nothing changes but tries (Waiting, with the holder).
+-- It is 2^63 or more: nothing changes but tries (Waiting, with the holder that the swap reported: `WaitingTellsHolder`). In Figure 7 the loop of lines 4 to 6: the next step tries the same swap again.
 abbrev pub waited : Ticket → ℕ → Stepped
 waited ticket found = stepped (advanced ticket Claiming (ticket .claimed) (ticket .done)) (Waiting (targetAt ticket (ticket .claimed) .word) (holderOf found))
 
--- Otherwise the ticket is stale: giving back, nothing done yet, if any word is claimed (Found), else finished (Stale).
+-- Otherwise the ticket is stale, lines 7 to 9: giving back, nothing done yet, if any word is claimed (Found), else finished (Stale).
 abbrev pub differed : Ticket → Stepped
 differed ticket =
     let word = targetAt ticket (ticket .claimed) .word in
@@ -82,7 +82,7 @@ differed ticket =
     (stepped noTicket (Stale word (oneMoreTry (ticket .tries))))
     (stepped (advanced ticket GivingBack (ticket .claimed) 0) (Found word))
 
--- Putting: either way it counts as done (Put; the last: Granted).
+-- Putting: either way it counts as done (Put; the last: Granted). The loop of lines 10 to 12, and line 15 with the last.
 abbrev pub put : Ticket → Stepped
 put ticket =
     let more = ticket .done + 1 in
@@ -90,7 +90,7 @@ put ticket =
     (stepped noTicket (Granted (oneMoreTry (ticket .tries))))
     (stepped (advanced ticket Putting (ticket .claimed) more) (Put more))
 
--- Giving back: likewise (Returned; the last: Stale, naming the word that differed, which is the first not claimed).
+-- Giving back: likewise (Returned; the last: Stale, naming the word that differed, which is the first not claimed). The loop of lines 10, 13 and 14, over the claimed targets alone, and line 15.
 abbrev pub givenBack : Ticket → Stepped
 givenBack ticket =
     let more = ticket .done + 1 in
@@ -163,7 +163,7 @@ viewGivenBack ticket =
     (stepped noTicket (Seen (valuesSeen ticket)))
     (stepped (advanced ticket Viewed (ticket .claimed) more) (Returned more))
 
--- The ticket and the answer after the swap, by the phase and the word found. (No ticket takes no step: its case makes the definition total.)
+-- The ticket and the answer after the swap, by the phase and the word found. (No ticket takes no step: its case makes the definition total, and leaves the slot as it is.)
 abbrev pub settledIn : Phase → Ticket → ℕ → Stepped
 settledIn Claiming ticket found =
     cond (eqb found (targetAt ticket (ticket .claimed) .quoted)) (claimed ticket)
@@ -173,7 +173,7 @@ settledIn Putting ticket found = put ticket
 settledIn GivingBack ticket found = givenBack ticket
 settledIn Viewing ticket found = cond (isHeld found) (viewWaited ticket found) (viewClaimed ticket found)
 settledIn Viewed ticket found = viewGivenBack ticket
-settledIn NoTicket ticket found = givenBack ticket
+settledIn NoTicket ticket found = stepped ticket (Returned (ticket .done))
 
 unfoldable pub settled : Ticket → ℕ → Stepped
 settled ticket found = settledIn (ticket .phase) ticket found
@@ -225,7 +225,7 @@ stepOf words ticket team =
     let swap = swapOf words (tried .word) (tried .expected) (tried .desired) in
     (settled ticket (swap .found), swap .words)
 
--- A look is one read: Value, or Held if 2^63 or more.
+-- A look is one read, line 2 of Figure 8, without the loop: Value, or Held if 2^63 or more.
 abbrev pub lookOf : Words → ℕ → LookAnswer
 lookOf words word =
     let found = readOf words word in

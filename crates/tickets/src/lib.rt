@@ -5,11 +5,11 @@ ghost use Prim.Native.Nat.{ℕ, _+_, _≤_, _<_};
 ghost use lib.ListN.{length};
 ghost use lib.Dec.{eqb};
 ghost use Rattle.words.specs.Tests.{occurs, allOccur};
-ghost use Rattle.words.specs.Words.{Words, wordsInBook, teamCount, mostTargets, readOf};
+ghost use Rattle.words.specs.Words.{Words, wordsInBook, teamCount, mostTargets, holderOf, readOf};
 ghost use Rattle.tickets.specs.declared.Phase.the-variants.{Claiming, Putting, Viewing, Viewed};
 ghost use Rattle.tickets.specs.Tickets.{noTicket, freshTickets, targetAt, targetsIn, wordsIn, namedIn, hasTicket, isView, targetWellMade, countsWellMade, viewWellMade, wellMade};
 ghost use Rattle.tickets.specs.Steps.{tries, oneMoreTry, advanced, swapTried, stepped, claimed, put, givenBack, settledIn, settled, noting, viewClaimed, valueNoted, valueNamed, valuesSeen, viewGivenBack, asStep, finishes, afterAnswer, AnswerFits, stepOf, lookOf};
-ghost use Rattle.tickets.specs.Going.{isClaiming, isPutting, isEdit, nextOf, endOf, goesOn, wentOn};
+ghost use Rattle.tickets.specs.Going.{isClaiming, isPutting, isEdit, nextOf, endOf, continues, wentOn};
 use words::Limits;
 
 // A word, the value that the edit quotes for it (in the source document: expected) and its new value (desired).
@@ -57,7 +57,7 @@ pub struct SwapTried {
     pub desired: u64,
 }
 
-// What a swap expected, and what it found.
+// What a swap expected, and what it found. Its holder is asked for only where the step waits (`Ticket::answer_to`).
 pub struct Swapped {
     pub expected: u64,
     pub found: u64,
@@ -444,7 +444,7 @@ impl Ticket {
         }
     }
 
-    // The answer of a step whose swap, while claiming, found a word.
+    // The answer of a step whose swap, while claiming, found a word. Waiting tells its holder, the one that the swap reported.
     fn claim_answer(self, found: u64) -> EditAnswer
         requires { ⌜ (self .claimed < self .n) × (self .n ≤ mostTargets) ⌝ }
         ensures { λ r. ⌜ asStep r ≡ settledIn Claiming self found .answer ⌝ }
@@ -522,7 +522,7 @@ impl Ticket {
     // Whether an edit goes on as most do: its swap found what it expected, and it isn't the last.
     pub fn goes_on(self, swapped: Swapped) -> bool
         requires { ⌜ (nextOf self < mostTargets) × (self .n ≤ mostTargets) ⌝ }
-        ensures { λ r. ⌜ r ≡ goesOn self (swapped .expected) (swapped .found) ⌝ }
+        ensures { λ r. ⌜ r ≡ continues self (swapped .expected) (swapped .found) ⌝ }
     {
         if swapped.found == swapped.expected {
             return self.next() + 1 != self.end();
@@ -687,15 +687,15 @@ impl Ticket {
     }
 
     // What a view's claiming swap settles.
-    fn view_claim(self, found: u64) -> Stepped
-        requires { ⌜ (self .claimed < self .n) × (self .n ≤ mostTargets) ⌝ }
+    fn view_claim(self, found: u64, holder: u16) -> Stepped
+        requires { ⌜ (self .claimed < self .n) × (self .n ≤ mostTargets) × (holder ≡ holderOf found) ⌝ }
         ensures { λ r. ⌜ r ≡ settledIn Viewing self found ⌝ }
     {
         if words::is_held(found) {
             let next = self.target(self.claimed);
             return Stepped {
                 ticket: self.advanced(Phase::Viewing, self.claimed, self.done),
-                answer: StepAnswer::Waiting(next.word, words::holder(found)),
+                answer: StepAnswer::Waiting(next.word, holder),
             };
         }
         Stepped {
@@ -773,10 +773,10 @@ pub fn swap(book: &mut [u64], ticket: Ticket, team: u16, next: Target) -> Swappe
 {
     let tried = ticket.swap_tried(team, next);
     let at = tried.word as usize;
-    let found = words::conditional_swap(book, at, tried.expected, tried.desired);
+    let report = words::conditional_swap(book, at, tried.expected, tried.desired);
     Swapped {
         expected: tried.expected,
-        found: found,
+        found: report.found,
     }
 }
 
@@ -798,8 +798,8 @@ fn view_claim_step(book: &mut [u64], ticket: Ticket, team: u16) -> Stepped
 {
     let next = ticket.target(ticket.claimed);
     let mark = words::mark(team);
-    let found = words::swap_any_value(book, next.word as usize, mark);
-    ticket.view_claim(found)
+    let report = words::swap_any_value(book, next.word as usize, mark);
+    ticket.view_claim(report.found, report.holder)
 }
 
 // One step of a view that gives back: one conditional swap.

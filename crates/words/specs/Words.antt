@@ -75,15 +75,17 @@ measureWord leg = linkWord leg + 2
 abbrev pub readOf : Words → ℕ → ℕ
 readOf words at = getD words at 0
 
--- What a conditional swap leaves: the word it found, and the words.
+-- What a conditional swap comes to: the word that it found, who holds that word, and the words that it leaves. (Request 3: "The conditional swap now reports the holder".)
 pub record Swap : Type 0 where
   pub found : ℕ
+  pub holder : ℕ
   pub words : Words
 
--- The conditional swap, also called compare-and-swap (Figure 1): the word found is returned, and becomes `desired` exactly where it is `expected`.
+-- The conditional swap, also called compare-and-swap (Figure 1): the word found is reported, with its holder, and becomes `desired` exactly where it is `expected`.
 abbrev pub swapOf : Words → ℕ → ℕ → ℕ → Swap
 swapOf words at expected desired = record {
   found = readOf words at;
+  holder = holderOf (readOf words at);
   words = cond (eqb (readOf words at) expected) (set words at desired) words;
 }
 

@@ -9,6 +9,12 @@ ghost use Rattle.words.specs.Words.{teamCount, mostTargets, passageCount
 // The limits of the book and its layout.
 pub struct Limits {}
 
+// What a conditional swap reports: the word that it found, and who holds it.
+pub struct Report {
+    pub found: u64,
+    pub holder: u16,
+}
+
 impl Limits {
     // The words of a book.
     pub const WORDS: usize = 4096;
@@ -50,7 +56,7 @@ pub fn mark(team: u16) -> u64
     Limits::HELD + team as u64
 }
 
-// Who holds a word, by what stands in it: the conditional swap reports the word found, and so the holder.
+// Who holds a word, by what stands in it.
 pub fn holder(word: u64) -> u16
     ensures { λ r. ⌜ r ≡ holderOf word ⌝ }
 {
@@ -107,30 +113,40 @@ pub fn read(book: &[u64], at: usize) -> u64
     book[at]
 }
 
-// The conditional swap, also called compare-and-swap (Figure 1): returns the word found.
-pub fn conditional_swap(book: &mut [u64], at: usize, expected: u64, desired: u64) -> u64
+// The conditional swap, also called compare-and-swap (Figure 1): reports the word found, and its holder.
+pub fn conditional_swap(book: &mut [u64], at: usize, expected: u64, desired: u64) -> Report
     requires { ⌜ at < length (now book) ⌝ }
-    ensures found { λ r. ⌜ r ≡ swapOf (now (book .entry)) at expected desired .found ⌝ }
+    ensures found { λ r. ⌜ r .found ≡ swapOf (now (book .entry)) at expected desired .found ⌝ }
+    ensures holder { λ r. ⌜ r .holder ≡ swapOf (now (book .entry)) at expected desired .holder ⌝ }
     ensures words { λ r. ⌜ now (book .exit) ≡ swapOf (now (book .entry)) at expected desired .words ⌝ }
 {
     let found = book[at];
+    let report = Report {
+        found: found,
+        holder: holder(found),
+    };
     if found == expected {
         book[at] = desired;
     }
-    found
+    report
 }
 
-// The conditional swap that expects whatever value it finds: a mark alone stays. Returns the word found.
-pub fn swap_any_value(book: &mut [u64], at: usize, desired: u64) -> u64
+// The conditional swap that expects whatever value it finds: a mark alone stays.
+pub fn swap_any_value(book: &mut [u64], at: usize, desired: u64) -> Report
     requires { ⌜ at < length (now book) ⌝ }
-    ensures found { λ r. ⌜ r ≡ swapOf (now (book .entry)) at (anyValue (readOf (now (book .entry)) at)) desired .found ⌝ }
+    ensures found { λ r. ⌜ r .found ≡ swapOf (now (book .entry)) at (anyValue (readOf (now (book .entry)) at)) desired .found ⌝ }
+    ensures holder { λ r. ⌜ r .holder ≡ swapOf (now (book .entry)) at (anyValue (readOf (now (book .entry)) at)) desired .holder ⌝ }
     ensures words { λ r. ⌜ now (book .exit) ≡ swapOf (now (book .entry)) at (anyValue (readOf (now (book .entry)) at)) desired .words ⌝ }
 {
     let found = book[at];
+    let report = Report {
+        found: found,
+        holder: holder(found),
+    };
     if !is_held(found) {
         book[at] = desired;
     }
-    found
+    report
 }
 
 // Whether a number is among the first n, from one on.

@@ -7,7 +7,7 @@ use mathlib.Core.Bool.{Bool, true, false}
 use denote.Ref.{now}
 use lib.ListN.{length}
 use Rattle.tickets.specs.Steps.{stepped, asStep}
-use Rattle.tickets.specs.Going.{nextOf, goesOn, wentAnswer}
+use Rattle.tickets.specs.Going.{nextOf, continues, wentAnswer}
 use Rattle.tickets.proofs.Made.{made}
 use Rattle.tickets.proofs.Going.{next-in-room, going-is-settled}
 use Rattle.frames.specs.Numbers.{Bytes, number16}
@@ -282,7 +282,7 @@ loop-again-3 c =
     let known = edit-known (team-turn (c .before .before .before .before .before .before .before .before .before .before .before .before .before .before .before .before .before)) (kind-at (c .before .before .before .before .before .before .before .before .before .before .before .before .before .before .before .before .before)) (sym (c .before .before .before .before .before .before .before .before .before .before .before .before .before .before .before .steps-edit .ensures) ∙ c .before .before .before .before .before .before .before .before .before .before .before .before .before .before .if2 .taken) in
     let swapped = c .before .before .before .before .before .before .before .before .before .swap in
     let on = sym (c .before .before .before .before .before .before .goes-on .ensures) ∙ c .before .before .before .before .before .if3 .taken in
-    let went = going-is-settled (turn .words) (ticketIn turn) (team-at (c .before .before .before .before .before .before .before .before .before .before .before .before .before .before .before .before .before)) (swapped .result .found) (known .made) (known .edit) (subst (λ (expected : ℕ). goesOn (ticketIn turn) expected (swapped .result .found) ≡ true) (swapped .ensures .0) on) in
+    let went = going-is-settled (turn .words) (ticketIn turn) (team-at (c .before .before .before .before .before .before .before .before .before .before .before .before .before .before .before .before .before)) (swapped .result .found) (known .made) (known .edit) (subst (λ (expected : ℕ). continues (ticketIn turn) expected (swapped .result .found) ≡ true) (swapped .ensures .0) on) in
     turned turn (turn .mirror)
     (step-by (turn .words) (ticketIn turn) (frameIn turn) (kind-at (c .before .before .before .before .before .before .before .before .before .before .before .before .before .before .before .before .before)) (team-at (c .before .before .before .before .before .before .before .before .before .before .before .before .before .before .before .before .before)) (swapped .result .found) (known .stands) (known .made) (known .step) (swapped .ensures .1) ((λ i. stepped (c .before .before .before .before .went-on .ensures i) (wentAnswer (ticketIn turn .phase) (nextOf (ticketIn turn) + 1))) ∙ went))
     refl (λ all. shows-with (turn .mirror) (turn .tickets) (slotIn turn) _ (turn .goes .6 all) (shows-went (turn .mirror) (slotIn turn) (ticketIn turn) (c .before .before .before .before .went-on .ensures) (known .is-edit) (slot-shown turn all))) (search needs) (c .before .before .put-went .ensures)

@@ -1,7 +1,7 @@
 -- `book::open_edit` meets its contract: the ticket that the edit opens, or the refusal of its fields.
 use mathlib.Core.Path.{sym, ap, _∙_}
 use Rattle.frames.specs.declared.Answer.the-variants as Answer
-use Rattle.calls.specs.Way.{settled, openSettled}
+use Rattle.calls.specs.Way.{settledWith, openSettled}
 use Rattle.book.proofs.Going.{read-allowed, opened-settles, refused-settles}
 use borrow.Author.Needs.{needs}
 use Rattle.book.proofs.open_edit.Statement.{statement}
@@ -23,7 +23,7 @@ returns : tie.Need-returns
 returns c =
     let start = c .before .before .before .before .before .before in
     let is = sym (c .before .before .before .before .read-edit .ensures) ∙ c .before .before .read .given .1 in
-    (λ i. settled (c .opened .ensures i) (Answer.Standing (c .opened .ensures i .n)))
+    (λ i. settledWith (c .opened .ensures i) (Answer.Standing (c .opened .ensures i .n)))
     ∙ opened-settles (start .args .ticket) _ ∙ ap (openSettled (start .args .ticket)) (sym is)
 
 returns-2 : tie.Need-returns-2

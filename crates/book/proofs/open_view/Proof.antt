@@ -2,7 +2,7 @@
 use mathlib.Core.Path.{ap, _∙_}
 use denote.Ref.{now}
 use Rattle.frames.specs.declared.Answer.the-variants as Answer
-use Rattle.calls.specs.Way.{settled, viewSettled}
+use Rattle.calls.specs.Way.{settledWith, viewSettled}
 use Rattle.book.proofs.Going.{view-read-opens, view-opened, view-refused, view-settles}
 use borrow.Author.Needs.{needs}
 use Rattle.book.proofs.open_view.Statement.{statement}
@@ -27,7 +27,7 @@ returns c =
     let start = c .before .before .before .before .before .before in
     let read = c .before .before .before .before .read-view in
     let (is, fine) = view-read-opens (now (start .args .part)) (read .result) (start .pre) (read .ensures) (c .before .enum-told .given .1) in
-    (λ i. settled (c .open-view .ensures i) (Answer.Standing (c .open-view .ensures i .n)))
+    (λ i. settledWith (c .open-view .ensures i) (Answer.Standing (c .open-view .ensures i .n)))
     ∙ view-settles (start .args .ticket) (read .result .view) fine is
     ∙ view-opened (start .args .ticket) (read .result) (c .before .enum-told .given .1)
     ∙ ap (viewSettled (start .args .ticket)) (read .ensures)

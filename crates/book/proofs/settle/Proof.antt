@@ -4,7 +4,7 @@ use mathlib.Core.Path.{sym, ap, subst, _∙_}
 use denote.Ref.{now}
 use lib.ListN.{length}
 use Rattle.frames.specs.Numbers.{number16}
-use Rattle.calls.specs.Way.{AimKnown, settled, lookAnswer, lookSettled, teamSettled, settledBy}
+use Rattle.calls.specs.Way.{AimKnown, settledWith, lookAnswer, lookSettled, teamSettled, settledBy}
 use Rattle.book.proofs.Going.{team-inside, team-known-frame}
 use borrow.Author.Needs.{needs}
 use Rattle.book.proofs.settle.Statement.{statement}
@@ -59,7 +59,7 @@ returns-2 c =
     let book = now (start .args .book) in
     let word = c .before .before .read16 .ensures .0 ∙ ap (λ l. number16 l 0) (c .before .before .before .part-after-kind .ensures) in
     let shown = c .look-at .ensures ∙ ap (lookAnswer book) word in
-    (λ i. (settled (start .args .ticket) (shown i), book)) ∙ ap (settledBy book (start .args .ticket) (now (start .args .frame))) (sym (c .before .before .before .before .enum-told .given .1))
+    (λ i. (settledWith (start .args .ticket) (shown i), book)) ∙ ap (settledBy book (start .args .ticket) (now (start .args .frame))) (sym (c .before .before .before .before .enum-told .given .1))
 
 same-length-2 : tie.Need-same-length-2
 same-length-2 c = search needs

@@ -27,7 +27,7 @@ returns c =
     let swapped = c .before .before .conditional-swap in
     let is = tried .ensures .0 (now (start .args .book)) in (
       ap (λ (swap : SwapTried). swap .expected) is,
-      step-by (now (start .args .book)) (start .args .ticket) (start .args .team) (tried .result) (swapped .result) (swapped .last .0) _ is (swapped .ensures .0) (swapped .ensures .1) refl,
+      step-by (now (start .args .book)) (start .args .ticket) (start .args .team) (tried .result) (swapped .result .found) (swapped .last .0) _ is (swapped .ensures .0) (swapped .ensures .1 .1) refl,
       swapped .ensures .0 ∙ ap (λ (swap : SwapTried). readOf (now (start .args .book)) (swap .word)) is,
     )
 

@@ -2,7 +2,7 @@
 use denote.Ref.{now}
 use native.Mathlib.Omega.{arith}
 use mathlib.Core.Path.{sym, ap, _∙_}
-use Rattle.words.specs.Words.{readOf, anyValue}
+use Rattle.words.specs.Words.{readOf, anyValue, holderOf}
 use Rattle.tickets.specs.declared.Phase.the-variants.{Viewing}
 use Rattle.tickets.specs.Steps.{tries}
 use Rattle.tickets.proofs.Made.{made, counts-in}
@@ -36,7 +36,8 @@ view-claim-requires : tie.Need-view-claim-requires
 view-claim-requires c κs =
     let start = c .before .before .before .before .before .before .before .before in
     let counts = counts-in (start .args .ticket) Viewing (start .pre .2) (start .pre .1) in
-    (counts, made (start .args .ticket) (start .pre .1) .most)
+    let reported = c .before .before .swap-any-value .ensures in
+    (counts, made (start .args .ticket) (start .pre .1) .most, reported .1 .0 ∙ ap holderOf (sym (reported .0)))
 
 same-length : tie.Need-same-length
 same-length c = search needs
@@ -49,11 +50,11 @@ returns c =
     let next = c .before .before .before .before .before .before .before .target in
     let ticket = start .args .ticket in
     let words = now (start .args .book) in
-    step-by words ticket (start .args .team) (tries (next .result .word) (anyValue (readOf words (next .result .word))) (mark .result)) (swap .result) (swap .last .0) (c .view-claim .result)
+    step-by words ticket (start .args .team) (tries (next .result .word) (anyValue (readOf words (next .result .word))) (mark .result)) (swap .result .found) (swap .last .0) (c .view-claim .result)
     ((λ i. tries (next .ensures i .word) (anyValue (readOf words (next .ensures i .word))) (mark .ensures i)) ∙ sym (tried-in words ticket (start .args .team) Viewing (start .pre .2)))
     (swap .ensures .0)
-    (swap .ensures .1)
-    (c .view-claim .ensures ∙ sym (settled-in ticket (swap .result) Viewing (start .pre .2)))
+    (swap .ensures .1 .1)
+    (c .view-claim .ensures ∙ sym (settled-in ticket (swap .result .found) Viewing (start .pre .2)))
 
 pub view-claim-step-spec : {M : Type 1} → statement M
 view-claim-step-spec =

@@ -48,11 +48,11 @@ returns c =
     let next = c .before .before .before .before .before .before .before .target in
     let ticket = start .args .ticket in
     let words = now (start .args .book) in
-    step-by words ticket (start .args .team) (tries (next .result .word) (mark .result) (next .result .quoted)) (swap .result) (swap .last .0) (c .view-give-back .result)
+    step-by words ticket (start .args .team) (tries (next .result .word) (mark .result) (next .result .quoted)) (swap .result .found) (swap .last .0) (c .view-give-back .result)
     ((λ i. tries (next .ensures i .word) (mark .ensures i) (next .ensures i .quoted)) ∙ sym (tried-in words ticket (start .args .team) Viewed (start .pre .2)))
     (swap .ensures .0)
-    (swap .ensures .1)
-    (c .view-give-back .ensures ∙ sym (settled-in ticket (swap .result) Viewed (start .pre .2)))
+    (swap .ensures .1 .1)
+    (c .view-give-back .ensures ∙ sym (settled-in ticket (swap .result .found) Viewed (start .pre .2)))
 
 pub view-give-back-step-spec : {M : Type 1} → statement M
 view-give-back-step-spec =

@@ -62,7 +62,7 @@ returns-3 : tie.Need-returns-3
 returns-3 c = c .give-back-answer .ensures ∙ (λ i. sym (settled-in (c .before .before .before .args .self) (c .before .before .before .args .found) GivingBack (c .before .enum-told3 .given .1)) i .answer)
 
 returns-4 : tie.Need-returns-4
-returns-4 c = c .give-back-answer2 .ensures ∙ (λ i. sym (settled-in (c .before .before .before .args .self) (c .before .before .before .args .found) NoTicket (c .before .enum-told4 .given .1)) i .answer)
+returns-4 c = absurd (counts-in (c .before .before .before .args .self) NoTicket (c .before .enum-told4 .given .1) (c .before .before .before .pre .0))
 
 returns-5 : tie.Need-returns-5
 returns-5 c = absurd (false≢true (sym (c .before .before .before .pre .1) ∙ ap isView (c .before .enum-told5 .given .1)))

@@ -17,14 +17,12 @@ target-requires c κs = search needs
 advanced-requires : tie.Need-advanced-requires
 advanced-requires c κs = search needs
 
-holder-requires : tie.Need-holder-requires
-holder-requires c κs = search needs
-
 returns : tie.Need-returns
 returns c =
-    let args = c .before .before .before .before .before .args in
-    _∙_ {b = viewWaited (args .self) (args .found)} (λ i. stepped (c .before .advanced .ensures i) (Waiting (c .before .before .target .ensures i .word) (c .holder .ensures i)))
-    (sym (settled-view-waited (args .self) (args .found) (sym (c .before .before .before .before .is-held .ensures) ∙ c .before .before .before .if1 .taken)))
+    let start = c .before .before .before .before in
+    let args = start .args in
+    _∙_ {b = viewWaited (args .self) (args .found)} (λ i. stepped (c .advanced .ensures i) (Waiting (c .before .target .ensures i .word) (start .pre .2 i)))
+    (sym (settled-view-waited (args .self) (args .found) (sym (c .before .before .before .is-held .ensures) ∙ c .before .before .if1 .taken)))
 
 note-requires : tie.Need-note-requires
 note-requires c κs = search needs
@@ -45,7 +43,6 @@ view-claim-spec =
     is-held-requires
     target-requires
     advanced-requires
-    holder-requires
     returns
     note-requires
     add-t10

@@ -1,0 +1,13 @@
+mod RefusalExamples
+mod ExamplesWholeCase
+mod ExamplesContended
+mod ExamplesMoves
+mod ExamplesPositions
+mod ExamplesPieces
+mod ExamplesViews
+mod ExamplesRounds
+mod OneTeam
+mod RefutedOrders
+mod RefutedTickets
+mod WaitingAllowed
+mod ExamplesHeard
