@@ -79,4 +79,4 @@ rounds-on (suc many) shared table =
     (ap suc (later .0), (there-is-a-round (shared .tickets) (table .teams), later .1))
 
 pub there-are-rounds : ThereAreRounds
-there-are-rounds calls many = rounds-on many (run calls .end) (run-table calls)
+there-are-rounds store calls many = rounds-on many (run store calls .end) (run-table store calls)

@@ -68,7 +68,7 @@ pub record Memory : Type 0 where
 
 -- At first a fresh book, and no byte in the buffer.
 abbrev pub starting : Bytes → Bytes → Memory
-starting buffer out = record { words = fresh .book; tickets = fresh .tickets; buffer = buffer; have = 0; out = out }
+starting buffer out = record { words = fresh [] .book; tickets = fresh [] .tickets; buffer = buffer; have = 0; out = out }
 
 -- A read: the bytes that came, and the buffer after it.
 pub record Read : Type 0 where
