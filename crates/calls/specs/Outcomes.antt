@@ -1,10 +1,10 @@
 -- Calls without a frame: what they return, and that they go only while no ticket stands.
-use Prim.Native.Nat.{ℕ, zero, suc}
-use mathlib.Core.Bool.{Bool, true, false, cond}
+use Prim.Native.Nat.{ℕ}
+use mathlib.Core.Bool.{Bool}
 use mathlib.Core.Option.{Option, none, some}
 use Rattle.words.specs.Words.{teamCount}
 use Rattle.tickets.specs.declared.Tickets.{Tickets}
-use Rattle.tickets.specs.Tickets.{ticketOf, hasTicket}
+use Rattle.tickets.specs.Tickets.{standsBelow}
 use Rattle.calls.specs.declared.Outcome.{Outcome}
 use Rattle.calls.specs.declared.Outcome.the-variants as Outcome
 
@@ -17,10 +17,6 @@ abbrev pub numberOf : Outcome → ℕ
 numberOf Outcome.Done = 0
 numberOf (Outcome.Refused refusal) = refusal
 
--- 14. A ticket stands: of the teams below n; of all.
-unfoldable pub standsBelow : ℕ → Tickets → Bool
-standsBelow zero tickets = false
-standsBelow (suc n) tickets = cond (hasTicket (ticketOf tickets n .phase)) true (standsBelow n tickets)
-
+-- 14. A ticket stands, whichever of the teams has it.
 abbrev pub ticketStands : Tickets → Bool
 ticketStands tickets = standsBelow teamCount tickets
