@@ -164,7 +164,7 @@ run-table store calls = tables-run calls (fresh store) fresh-table
 pub run-good : (store : Words) (calls : List Call) → Every Admitted calls → Good (run store calls .end) (notesOn (heardOn store calls))
 run-good store calls bytes = calls-keep calls bytes (fresh store) noNotes fresh-table (fresh-good store)
 
-append-both : (xs ys zs : List Event) → (xs ++ ys) ++ zs ≡ xs ++ (ys ++ zs)
+pub append-both : (xs ys zs : List Event) → (xs ++ ys) ++ zs ≡ xs ++ (ys ++ zs)
 append-both [] ys zs = refl
 append-both (x ∷ xs) ys zs = ap (λ l. x ∷ l) (append-both xs ys zs)
 

@@ -27,6 +27,7 @@ pub mod Shelving
 pub mod Demand3
 pub mod SurveyDemand3
 pub mod Returning
+pub mod Fillings
 pub mod Holding
 pub mod BenchTable
 pub mod ExampleCalls

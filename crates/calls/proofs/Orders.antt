@@ -151,6 +151,26 @@ unfolding untilBack
 until-none [] none-back = refl
 until-none (event ∷ events) none-back = ap (λ b. cond b (event ∷ untilBack events) []) none-back
 
+-- Behind the last coming back all came since.
+back-there : (events after : List Event) (shelf : ℕ) → hasBack (events ++ (cameBack shelf ∷ after)) ≡ true
+unfolding hasBack
+back-there [] after shelf = refl
+back-there (first ∷ events) after shelf = ap (λ b. cond (isBack first) true b) (back-there events after shelf) ∙ out-of (λ b. true) (isBack first) true true
+
+module _ (after : List Event) (none-back : hasBack after ≡ false) (shelf : ℕ) where
+  pub since-after : (events : List Event) → sinceBack (events ++ (cameBack shelf ∷ after)) ≡ after
+  unfolding sinceBack hasBack
+  since-after [] = since-all after none-back
+  since-after (first ∷ events) =
+      let later = events ++ (cameBack shelf ∷ after) in
+      ap (λ b. cond b (sinceBack later) (first ∷ later)) (back-there (first ∷ events) after shelf) ∙ since-after events
+
+  pub until-after : (events : List Event) → untilBack (events ++ (cameBack shelf ∷ after)) ≡ events ++ (cameBack shelf ∷ [])
+  unfolding untilBack hasBack
+  until-after [] = ap (λ later. cameBack shelf ∷ later) (until-none after none-back)
+  until-after (first ∷ events) =
+      ap (λ b. cond b (first ∷ untilBack (events ++ (cameBack shelf ∷ after))) []) (back-there (first ∷ events) after shelf) ∙ ap (λ later. first ∷ later) (until-after events)
+
 -- Without the places only reserved, likewise.
 back-finished : (events : List Event) → hasBack (finished events) ≡ hasBack events
 unfolding hasBack finished

@@ -1,7 +1,7 @@
 -- Coming back to a shelf returns to the state in which it was filled.
 use mathlib.Core.Path.{_≡_, refl, sym, ap, subst, _∙_}
-use mathlib.Core.Bool.{Bool, true, false, cond, true≢false, false≢true}
-use mathlib.Core.List.{List, [], _∷_, _++_, map}
+use mathlib.Core.Bool.{Bool, true, false, not, true≢false, false≢true}
+use mathlib.Core.List.{List, [], _∷_}
 use mathlib.Core.Logic.{_≢_, _⊎_, inl, inr}
 use mathlib.Core.Option.{Option, none, some}
 use Prim.Native.Nat.{ℕ, _<_}
@@ -28,26 +28,18 @@ use Rattle.frames.specs.Request.{Request, Open, Step, Look, View}
 use Rattle.frames.specs.Requests.{requestIn}
 use Rattle.calls.specs.Call.{refusalOf, requestDone, refusedOr, doneOf, callOf, bookLengthWrong}
 use Rattle.calls.specs.Outcomes.{outcomeOf, numberOf, ticketStands}
-use Rattle.calls.specs.Shelves.{shelfAt, shelfOf, withShelf, isFilled, storeLengthWrong, shelfUnknown, neverFilled, fillRefusal, backRefusal, filledBy, fillOf, backBy, backOf}
+use Rattle.calls.specs.Shelves.{shelfAt, shelfOf, withShelf, Filled, storeLengthWrong, shelfUnknown, neverFilled, shelfRefusal, fillRefusal, backRefusal, filledBy, fillOf, backBy, backOf}
 use Rattle.calls.specs.Run.{Call, framed, filling, comingBack, theStore, another, Lent, LentRight, Admitted, Shared, fresh, onward, Heard, heardOf, leftBy, lentBy, storeAfter, runFrom, run}
 use Rattle.calls.specs.Order.{Notes, noNotes, hearCall, notesFrom}
 use Rattle.calls.specs.Linearizable.{Every}
 use Rattle.calls.specs.Demand1.{TableFits}
-use Rattle.calls.specs.Returning.{Went, NotFilled, ReturnsTo, ComingBackReturns}
+use Rattle.calls.specs.Returning.{KeepsApart, ShelvesKeepApart, Went, NotFilled, returnedTo, ComesNotBack, ReturnsTo, ComingBackReturns}
 use Rattle.calls.proofs.Tables.{tables-stay, standing-inside}
 use Rattle.calls.proofs.Freshness.{fresh-table}
 use Rattle.calls.proofs.Turns.{Good}
-use Rattle.calls.proofs.Shelving.{checked, no-ticket, read-shelf, length-shelf, length-with, read-mine, read-other}
+use Rattle.calls.proofs.Shelving.{no-ticket, read-shelf, length-shelf, length-with, read-mine, read-other}
 use Rattle.calls.proofs.Passing.{Passes, passes}
 use Rattle.calls.proofs.Demand3.{fresh-good, calls-keep, tables-run, run-table, run-good}
-
--- What a call that went says of its checks: none applied.
-went-checks : (book store stands shelf : Bool) → numberOf (outcomeOf (checked book store stands shelf)) ≡ 0 → (book ≡ false) × (store ≡ false) × (stands ≡ false) × (shelf ≡ false)
-went-checks true store stands shelf went = absurd (omega (arith, went))
-went-checks false true stands shelf went = absurd (omega (arith, went))
-went-checks false false true shelf went = absurd (omega (arith, went))
-went-checks false false false true went = absurd (omega (arith, went))
-went-checks false false false false went = (refl, refl, refl, refl)
 
 -- A well-made ticket stands.
 made-stands : (ticket : Ticket) → wellMade ticket ≡ true → hasTicket (ticket .phase) ≡ true
@@ -105,6 +97,23 @@ module _ (shared : Shared) (n : Notes) (table : TableFits (shared .tickets)) (go
   unfolding callOf doneOf
   call-empties frame out bytes = refused-empties (requestIn frame) (refusalOf (shared .book) (shared .tickets) frame out) (passes (shared .book) (shared .tickets) frame out bytes)
 
+-- What a store keeps on its shelves.
+pub shelves-keep-apart : ShelvesKeepApart
+shelves-keep-apart store book shelf long whole inside = record {
+  mine = ext-getD 0 (shelfOf (withShelf store shelf book) shelf) book (length-now shelf inside ∙ sym whole)
+      (λ word below. let here : word < wordsInBook = omega (arith, below, length-now shelf inside) in
+      read-shelf (withShelf store shelf book) shelf word here ∙ read-mine store book shelf long whole inside word here);
+  others = λ other known differs. ext-getD 0 (shelfOf (withShelf store shelf book) other) (shelfOf store other) (length-now other known ∙ sym (length-shelf store other long known))
+      (λ word below. let here : word < wordsInBook = omega (arith, below, length-now other known) in
+      read-shelf (withShelf store shelf book) other word here
+      ∙ read-other store book shelf long whole inside other word known differs here
+      ∙ sym (read-shelf store other word here));
+  long = length-with store book shelf long whole inside;
+}
+  where
+    length-now : (other : ℕ) → other < shelfCount → length (shelfOf (withShelf store shelf book) other) ≡ wordsInBook
+    length-now other known = length-shelf (withShelf store shelf book) other (length-with store book shelf long whole inside) known
+
 -- What holds at all times, and of a shelf since it was filled: it keeps this book.
 pub record Between (shared : Shared) (n : Notes) : Type 0 where
   pub table : TableFits (shared .tickets)
@@ -132,6 +141,11 @@ between-call call admitted shared n at = record {
     by (filling shelf lent) right = at .empty
     by (comingBack shelf lent) right = at .empty
 
+-- What a filling answers is what its checks say.
+fill-answers : (refusal : Option ℕ) (words store : Words) (filled : Filled) (shelf : ℕ) → numberOf (filledBy refusal words store filled shelf .0) ≡ numberOf (outcomeOf refusal)
+fill-answers none words store filled shelf = refl
+fill-answers (some number) words store filled shelf = refl
+
 -- A filling of another shelf, or one that did not go, leaves what a shelf keeps.
 module _ (shared : Shared) (whole : length (shared .book) ≡ wordsInBook) (shelf : ℕ) (inside : shelf < shelfCount) (book : Words) (keeps : Keeps shelf book shared) (other : ℕ) where
   abbrev Left : Lent → Option ℕ → Type 0
@@ -143,8 +157,8 @@ module _ (shared : Shared) (whole : length (shared .book) ≡ wordsInBook) (shel
   }
 
   left-by : (lent : Lent) → LentRight lent → (bookWrong store stands unknown : Bool) → storeLengthWrong (lentBy shared lent) ≡ store → shelfUnknown other ≡ unknown
-      → (filling other lent ≡ filling shelf theStore → numberOf (outcomeOf (checked bookWrong store stands unknown)) ≢ 0)
-      → Left lent (checked bookWrong store stands unknown)
+      → (filling other lent ≡ filling shelf theStore → numberOf (outcomeOf (shelfRefusal bookWrong store stands unknown)) ≢ 0)
+      → Left lent (shelfRefusal bookWrong store stands unknown)
   left-by theStore right true store stands unknown is known not-mine = keeps
   left-by theStore right false true stands unknown is known not-mine = keeps
   left-by theStore right false false true unknown is known not-mine = keeps
@@ -167,13 +181,9 @@ module _ (shared : Shared) (whole : length (shared .book) ≡ wordsInBook) (shel
   unfolding fillOf fillRefusal
   fill-keeps lent right not-mine = left-by lent right (bookLengthWrong (shared .book)) (storeLengthWrong (lentBy shared lent)) (ticketStands (shared .tickets)) (shelfUnknown other) refl refl not-mine'
     where
-      outcome-same : (refusal : Option ℕ) → numberOf (filledBy refusal (shared .book) (lentBy shared lent) (shared .filled) other .0) ≡ numberOf (outcomeOf refusal)
-      outcome-same none = refl
-      outcome-same (some refusal) = refl
-
       not-mine' : filling other lent ≡ filling shelf theStore
-          → numberOf (outcomeOf (checked (bookLengthWrong (shared .book)) (storeLengthWrong (lentBy shared lent)) (ticketStands (shared .tickets)) (shelfUnknown other))) ≢ 0
-      not-mine' same went = not-mine same (outcome-same (checked (bookLengthWrong (shared .book)) (storeLengthWrong (lentBy shared lent)) (ticketStands (shared .tickets)) (shelfUnknown other)) ∙ went)
+          → numberOf (outcomeOf (shelfRefusal (bookLengthWrong (shared .book)) (storeLengthWrong (lentBy shared lent)) (ticketStands (shared .tickets)) (shelfUnknown other))) ≢ 0
+      not-mine' same went = not-mine same (fill-answers (fillRefusal (shared .book) (shared .tickets) (lentBy shared lent) other) (shared .book) (lentBy shared lent) (shared .filled) other ∙ went)
 
 keeps-run : (shelf : ℕ) → shelf < shelfCount → (book : Words) (calls : List Call) → Every Admitted calls → (shared : Shared) (n : Notes) → Between shared n → Every (NotFilled shelf) (runFrom shared calls .heard)
     → Keeps shelf book shared → Keeps shelf book (runFrom shared calls .end)
@@ -207,21 +217,56 @@ same-tables one two first second empty-one empty-two none-one none-two i = recor
       (λ team inside. empty-one team (omega (arith, inside, first)) (none-one team) ∙ sym (empty-two team (omega (arith, inside, first)) (none-two team))) i;
 }
 
--- Frames are answered alike by books and tickets alone.
-frames-alike : (frames : List (Bytes × Bytes)) (one two : Shared) → one .book ≡ two .book → one .tickets ≡ two .tickets
-    → runFrom one (map (λ pair. framed (pair .0) (pair .1)) frames) .heard ≡ runFrom two (map (λ pair. framed (pair .0) (pair .1)) frames) .heard
-unfolding runFrom
-frames-alike [] one two books tables = refl
-frames-alike (pair ∷ frames) one two books tables =
-    let call = framed (pair .0) (pair .1) in
-    let later : Shared → List Heard = λ shared. runFrom (leftBy shared call) (map (λ pair. framed (pair .0) (pair .1)) frames) .heard in
+-- A filling leaves the store as long as it was.
+module _ (shared : Shared) (shelf : ℕ) (long : length (shared .store) ≡ wordsInStore) where
+  store-long : (lent : Lent) → length (leftBy shared (filling shelf lent) .store) ≡ wordsInStore
+  unfolding fillOf fillRefusal
+  store-long (another store) = long
+  store-long theStore = by (bookLengthWrong (shared .book)) (storeLengthWrong (shared .store)) (ticketStands (shared .tickets)) (shelfUnknown shelf) refl refl
+    where
+      by : (book store stands unknown : Bool) → bookLengthWrong (shared .book) ≡ book → shelfUnknown shelf ≡ unknown
+          → length (filledBy (shelfRefusal book store stands unknown) (shared .book) (shared .store) (shared .filled) shelf .1) ≡ wordsInStore
+      by true store stands unknown is known = long
+      by false true stands unknown is known = long
+      by false false true unknown is known = long
+      by false false false true is known = long
+      by false false false false is known =
+          length-with (shared .store) (shared .book) shelf long (eqb-true _ _ (not-false _ is)) (ltb-true shelf shelfCount (not-false _ known))
+
+-- Where none comes back, calls are answered alike by books and tickets alone, whatever two stores keep.
+calls-alike : (calls : List Call) → Every ComesNotBack calls → (one two : Shared) → one .book ≡ two .book → one .tickets ≡ two .tickets
+    → length (one .store) ≡ wordsInStore → length (two .store) ≡ wordsInStore → runFrom one calls .heard ≡ runFrom two calls .heard
+unfolding runFrom fillOf fillRefusal
+calls-alike [] stays one two books tables long-one long-two = refl
+calls-alike (framed frame out ∷ calls) stays one two books tables long-one long-two =
+    let call = framed frame out in
     (λ i. record {
       call = call;
-      returned = callOf (books i) (tables i) (pair .0) (pair .1) .0 .written;
-      output = callOf (books i) (tables i) (pair .0) (pair .1) .2;
-    } ∷ later one)
+      returned = callOf (books i) (tables i) frame out .0 .written;
+      output = callOf (books i) (tables i) frame out .2;
+    } ∷ runFrom (leftBy one call) calls .heard)
     ∙ ap (λ rest. heardOf two call ∷ rest)
-    (frames-alike frames (leftBy one call) (leftBy two call) (λ i. callOf (books i) (tables i) (pair .0) (pair .1) .1) (λ i. callOf (books i) (tables i) (pair .0) (pair .1) .0 .tickets))
+    (calls-alike calls (stays .1) (leftBy one call) (leftBy two call) (λ i. callOf (books i) (tables i) frame out .1) (λ i. callOf (books i) (tables i) frame out .0 .tickets) long-one long-two)
+calls-alike (comingBack shelf lent ∷ calls) stays one two books tables long-one long-two = absurd (stays .0)
+calls-alike (filling shelf lent ∷ calls) stays one two books tables long-one long-two =
+    let call = filling shelf lent in
+    (λ i. record { call = call; returned = same-number i; output = [] } ∷ runFrom (leftBy one call) calls .heard)
+    ∙ ap (λ rest. heardOf two call ∷ rest)
+    (calls-alike calls (stays .1) (leftBy one call) (leftBy two call) books tables (store-long one shelf long-one lent) (store-long two shelf long-two lent))
+  where
+    stores : (lent : Lent) → storeLengthWrong (lentBy one lent) ≡ storeLengthWrong (lentBy two lent)
+    stores theStore = ap (λ (k : ℕ). not (eqb k wordsInStore)) (long-one ∙ sym long-two)
+    stores (another store) = refl
+
+    refusals : shelfRefusal (bookLengthWrong (one .book)) (storeLengthWrong (lentBy one lent)) (ticketStands (one .tickets)) (shelfUnknown shelf)
+        ≡ shelfRefusal (bookLengthWrong (two .book)) (storeLengthWrong (lentBy two lent)) (ticketStands (two .tickets)) (shelfUnknown shelf)
+    refusals i = shelfRefusal (bookLengthWrong (books i)) (stores lent i) (ticketStands (tables i)) (shelfUnknown shelf)
+
+    same-number : heardOf one (filling shelf lent) .returned ≡ heardOf two (filling shelf lent) .returned
+    same-number =
+        fill-answers (fillRefusal (one .book) (one .tickets) (lentBy one lent) shelf) (one .book) (lentBy one lent) (one .filled) shelf
+        ∙ ap (λ refusal. numberOf (outcomeOf refusal)) refusals
+        ∙ sym (fill-answers (fillRefusal (two .book) (two .tickets) (lentBy two lent) shelf) (two .book) (lentBy two lent) (two .filled) shelf)
 
 -- Filling and coming back, by their checks.
 module _ (shared : Shared) (shelf : ℕ) where
@@ -231,9 +276,9 @@ module _ (shared : Shared) (shelf : ℕ) where
   fill-went went = by (bookLengthWrong (shared .book)) (storeLengthWrong (shared .store)) (ticketStands (shared .tickets)) (shelfUnknown shelf) refl refl refl went
     where
       by : (book store stands unknown : Bool) → storeLengthWrong (shared .store) ≡ store → ticketStands (shared .tickets) ≡ stands → shelfUnknown shelf ≡ unknown
-          → numberOf (filledBy (checked book store stands unknown) (shared .book) (shared .store) (shared .filled) shelf .0) ≡ 0
+          → numberOf (filledBy (shelfRefusal book store stands unknown) (shared .book) (shared .store) (shared .filled) shelf .0) ≡ 0
           → (storeLengthWrong (shared .store) ≡ false) × (ticketStands (shared .tickets) ≡ false) × (shelfUnknown shelf ≡ false)
-          × (filledBy (checked book store stands unknown) (shared .book) (shared .store) (shared .filled) shelf .1 ≡ withShelf (shared .store) shelf (shared .book))
+          × (filledBy (shelfRefusal book store stands unknown) (shared .book) (shared .store) (shared .filled) shelf .1 ≡ withShelf (shared .store) shelf (shared .book))
       by true store stands unknown s t u e = absurd (omega (arith, e))
       by false true stands unknown s t u e = absurd (omega (arith, e))
       by false false true unknown s t u e = absurd (omega (arith, e))
@@ -245,8 +290,8 @@ module _ (shared : Shared) (shelf : ℕ) where
   back-went went = by (bookLengthWrong (shared .book)) (storeLengthWrong (shared .store)) (ticketStands (shared .tickets)) (neverFilled (shared .filled) shelf) refl went
     where
       by : (book store stands never : Bool) → ticketStands (shared .tickets) ≡ stands
-          → numberOf (backBy (checked book store stands never) (shared .book) (shared .store) shelf .0) ≡ 0
-          → (ticketStands (shared .tickets) ≡ false) × (backBy (checked book store stands never) (shared .book) (shared .store) shelf .1 ≡ shelfOf (shared .store) shelf)
+          → numberOf (backBy (shelfRefusal book store stands never) (shared .book) (shared .store) shelf .0) ≡ 0
+          → (ticketStands (shared .tickets) ≡ false) × (backBy (shelfRefusal book store stands never) (shared .book) (shared .store) shelf .1 ≡ shelfOf (shared .store) shelf)
       by true store stands never t e = absurd (omega (arith, e))
       by false true stands never t e = absurd (omega (arith, e))
       by false false true never t e = absurd (omega (arith, e))
@@ -259,35 +304,31 @@ fresh-empty team inside none-stands = getD-replicate {A = Ticket} teamCount team
 pub coming-back-returns : ComingBackReturns
 coming-back-returns store before between shelf first second filled-there none-filled back-here =
     let start : Between (fresh store) noNotes = record { table = fresh-table; good = fresh-good store; empty = fresh-empty } in
-    let there = run store before .end in
-    let at-there = between-run before first (fresh store) noNotes start in
+    let until = run store before .end in
+    let at-until = between-run before first (fresh store) noNotes start in
     let call = filling shelf theStore in
-    let after-fill = leftBy there call in
-    let at-filled = between-call call tt there (notesFrom noNotes (run store before .heard)) at-there in
-    let here = runFrom after-fill between .end in
-    let at-here = between-run between second after-fill (hearCall (notesFrom noNotes (run store before .heard)) call (heardOf there call)) at-filled in
-    let (right-store, none-there, known, store-is) = fill-went there shelf filled-there in
+    let there = leftBy until call in
+    let at-there = between-call call tt until (notesFrom noNotes (run store before .heard)) at-until in
+    let here = runFrom there between .end in
+    let at-here = between-run between second there (hearCall (notesFrom noNotes (run store before .heard)) call (heardOf until call)) at-there in
+    let after = leftBy here (comingBack shelf theStore) in
+    let (right-store, none-there, known, store-is) = fill-went until shelf filled-there in
     let (none-here, book-is) = back-went here shelf back-here in
-    let long : length (there .store) ≡ wordsInStore = eqb-true _ _ (not-false _ right-store) in
+    let long : length (until .store) ≡ wordsInStore = eqb-true _ _ (not-false _ right-store) in
     let inside : shelf < shelfCount = ltb-true shelf shelfCount (not-false _ known) in
-    let keeps-now : Keeps shelf (there .book) after-fill = (
-      ap length store-is ∙ length-with (there .store) (there .book) shelf long (at-there .good .whole) inside,
-      λ word below.
-          ap (λ kept. readOf (shelfOf kept shelf) word) store-is
-          ∙ read-shelf (withShelf (there .store) shelf (there .book)) shelf word below
-          ∙ read-mine (there .store) (there .book) shelf long (at-there .good .whole) inside word below,
-    ) in
-    let keeps-here = keeps-run shelf inside (there .book) between second after-fill (hearCall (notesFrom noNotes (run store before .heard)) call (heardOf there call)) at-filled none-filled keeps-now in
+    let kept = shelves-keep-apart (until .store) (until .book) shelf long (at-until .good .whole) inside in
+    let keeps-there : Keeps shelf (until .book) there =
+    (ap length store-is ∙ kept .long, λ word below. ap (λ (store : Words). readOf (shelfOf store shelf) word) store-is ∙ ap (λ (book : Words). readOf book word) (kept .mine)) in
+    let keeps-here = keeps-run shelf inside (until .book) between second there (hearCall (notesFrom noNotes (run store before .heard)) call (heardOf until call)) at-there none-filled keeps-there in
     let whole-shelf = length-shelf (here .store) shelf (keeps-here .0) inside in
-    let same-book : leftBy here (comingBack shelf theStore) .book ≡ there .book =
-    book-is ∙ ext-getD 0 (shelfOf (here .store) shelf) (there .book) (whole-shelf ∙ sym (at-there .good .whole)) (λ word below. keeps-here .1 word (omega (arith, below, whole-shelf))) in
+    let same-book : after .book ≡ there .book =
+    book-is ∙ ext-getD 0 (shelfOf (here .store) shelf) (until .book) (whole-shelf ∙ sym (at-until .good .whole)) (λ word below. keeps-here .1 word (omega (arith, below, whole-shelf))) in
     let same-tickets : here .tickets ≡ there .tickets =
     same-tables (here .tickets) (there .tickets) (at-here .table .teams) (at-there .table .teams) (at-here .empty) (at-there .empty)
     (no-ticket (here .tickets) (at-here .table .teams) none-here) (no-ticket (there .tickets) (at-there .table .teams) none-there) in
+    let same-state : after ≡ returnedTo there here = λ i. record { book = same-book i; tickets = same-tickets i; store = here .store; filled = here .filled } in
     record {
-      book = same-book;
-      tickets = same-tickets;
-      store = refl;
-      filled = refl;
-      alike = λ frames. frames-alike frames (leftBy here (comingBack shelf theStore)) there same-book same-tickets;
+      state = same-state;
+      alike = λ later. ap (λ shared. runFrom shared later) same-state;
+      alike-there = λ later stays. calls-alike later stays after there same-book same-tickets (keeps-here .0) (keeps-there .0);
     }

@@ -18,14 +18,14 @@ use Rattle.words.proofs.Tests.{is-false}
 use Rattle.tickets.specs.declared.Phase.{Phase}
 use Rattle.tickets.specs.declared.Phase.the-variants.{NoTicket, Claiming, Putting, GivingBack, Viewing, Viewed}
 use Rattle.tickets.specs.declared.Tickets.{Tickets}
-use Rattle.tickets.specs.Tickets.{absentSlot, ticketOf, hasTicket}
+use Rattle.tickets.specs.Tickets.{absentSlot, ticketOf, hasTicket, standsBelow}
 use Rattle.tickets.specs.Invariant.{Invariant, Holder}
 use Rattle.tickets.proofs.Looking.{unheld-plain}
 use Rattle.plain.specs.Plain.{Plain, wordOf, Sound}
 use Rattle.plain.proofs.Values.{words-are-values}
-use Rattle.calls.specs.Call.{bookLengthWrong, check, firstOf}
-use Rattle.calls.specs.Outcomes.{numberOf, standsBelow, ticketStands}
-use Rattle.calls.specs.Shelves.{shelfAt, shelfOf, withShelf, Filled, isFilled, storeLengthWrong, shelfUnknown, neverFilled, fillRefusal, backRefusal, filledBy, fillOf, backBy, backOf}
+use Rattle.calls.specs.Call.{bookLengthWrong}
+use Rattle.calls.specs.Outcomes.{numberOf, ticketStands}
+use Rattle.calls.specs.Shelves.{shelfAt, shelfOf, withShelf, Filled, isFilled, storeLengthWrong, shelfUnknown, neverFilled, shelfRefusal, fillRefusal, backRefusal, filledBy, fillOf, backBy, backOf}
 use Rattle.calls.specs.Run.{Lent, theStore, another, LentRight, filling, comingBack, Shared, onward, lentBy, storeAfter, heardOf, leftBy}
 use Rattle.calls.specs.Order.{Event, filled, cameBack, wasFilled, Noted, Notes, noteEvent, noteOutOfTurn, notedBelow, hearAlone, hearFilled, hearBack, hearCall}
 use Rattle.calls.specs.Linearizable.{freshState, withKept, play}
@@ -141,9 +141,6 @@ module _ (store book : Words) (shelf : ℕ) (long : length store ≡ wordsInStor
   ]
 
 -- Filling, by its four checks.
-abbrev pub checked : Bool → Bool → Bool → Bool → Option ℕ
-checked book store stands shelf = firstOf (check 1 book ∷ check 19 store ∷ check 14 stands ∷ check 20 shelf ∷ [])
-
 module _ (shared : Shared) (n : Notes) (table : TableFits (shared .tickets)) (good : Good shared n) (shelf : ℕ) where
   -- What a filling leaves and what is heard of it, by its refusal.
   abbrev FilledWell : Lent → Option ℕ → Type 0
@@ -260,7 +257,7 @@ module _ (shared : Shared) (n : Notes) (table : TableFits (shared .tickets)) (go
 
   fill-by : (lent : Lent) (book store stands unknown : Bool)
       → (store ≡ false → lent ≡ theStore) → (lent ≡ theStore → storeLengthWrong (shared .store) ≡ store)
-      → ticketStands (shared .tickets) ≡ stands → shelfUnknown shelf ≡ unknown → FilledWell lent (checked book store stands unknown)
+      → ticketStands (shared .tickets) ≡ stands → shelfUnknown shelf ≡ unknown → FilledWell lent (shelfRefusal book store stands unknown)
   fill-by lent true store stands unknown one right none-stands known = fill-refused lent 1 refl
   fill-by lent false true stands unknown one right none-stands known = fill-refused lent 19 refl
   fill-by lent false false true unknown one right none-stands known = fill-refused lent 14 refl
@@ -343,7 +340,7 @@ module _ (shared : Shared) (n : Notes) (table : TableFits (shared .tickets)) (go
 
   back-by : (lent : Lent) (book store stands never : Bool)
       → (store ≡ false → lent ≡ theStore)
-      → ticketStands (shared .tickets) ≡ stands → neverFilled (shared .filled) shelf ≡ never → CameBackWell lent (checked book store stands never)
+      → ticketStands (shared .tickets) ≡ stands → neverFilled (shared .filled) shelf ≡ never → CameBackWell lent (shelfRefusal book store stands never)
   back-by lent true store stands never one none-stands known = back-refused lent 1 refl
   back-by lent false true stands never one none-stands known = back-refused lent 19 refl
   back-by lent false false true never one none-stands known = back-refused lent 14 refl

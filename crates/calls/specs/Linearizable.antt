@@ -244,7 +244,8 @@ pub record Linearizable (result : Run) : Type 0 where
   pub last-answers : Every EndedRight (ended (result .heard))
   -- (Beyond the papers) A ticket still standing is decided at most once, and Found named the word that differed; a view never is.
   pub decided-once : (team : ℕ) → StandingRight (notesOn (result .heard) .tickets team)
-  -- Coming back makes the plain book that of the shelf's last filling, and there was one.
+  -- Coming back makes the plain book that of the shelf's last filling, and there was one. (The first is a law of `play` and the second one of `order`, for the reader: they
+  -- hold of whatever was heard. What binds the program are `words-agree` after a coming back, `shelves-agree`, `filled-heard`, and `in-turn`.)
   pub comes-back : (before between after : List Event) (shelf : ℕ)
       → order (result .heard) ≡ before ++ (filled shelf ∷ (between ++ (cameBack shelf ∷ after)))
       → wasFilled shelf between ≡ false

@@ -32,7 +32,7 @@ pub data Verdict : Type 0 where
 
 -- What has a place in the order: a ticket's edit, decided as granted or as stale; a look at a word, with the value it gave; a view that is
 -- finished, with the words it named and their values. A view that has claimed all its words reserves its place until it is finished. A shelf that is
--- come back to; and, so that it is known to what, a shelf that is filled, which changes nothing.
+-- come back to; and, so that it is known to what, a shelf that is filled, which changes nothing and is no place (`FillingsHaveNoPlace`).
 pub data Event : Type 0 where
   decided : Verdict → Edit → Event
   looked : (word value : ℕ) → Event

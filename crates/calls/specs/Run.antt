@@ -83,7 +83,7 @@ heardOf shared (comingBack shelf lent) =
     let result = backOf (shared .book) (shared .tickets) (lentBy shared lent) (shared .filled) shelf in
     record { call = comingBack shelf lent; returned = numberOf (result .0); output = [] }
 
--- The book and tickets that a call leaves.
+-- What a call leaves. A frame changes no shelf, a filling no word and no ticket, a coming back neither tickets nor shelves.
 abbrev pub leftBy : Shared → Call → Shared
 leftBy shared (framed frame out) =
     let result = callOf (shared .book) (shared .tickets) frame out in

@@ -9,7 +9,7 @@ use Rattle.words.specs.Tests.{someHolds}
 use Rattle.words.specs.Words.{Words, wordsInBook, shelfCount, wordsInStore}
 use Rattle.tickets.specs.declared.Tickets.{Tickets}
 use Rattle.calls.specs.declared.Outcome.{Outcome}
-use Rattle.calls.specs.Call.{Check, check, firstOf, bookLengthWrong}
+use Rattle.calls.specs.Call.{check, firstOf, bookLengthWrong}
 use Rattle.calls.specs.Outcomes.{outcomeOf, ticketStands}
 
 -- A shelf keeps a book: the words of the store from here on.
@@ -44,22 +44,18 @@ shelfUnknown shelf = not (ltb shelf shelfCount)
 abbrev pub neverFilled : Filled → ℕ → Bool
 neverFilled filled shelf = someHolds (shelfUnknown shelf ∷ not (isFilled filled shelf) ∷ [])
 
--- "Checks: 19, store of another length, after 1 and before 14; 20 .. after 14."
-abbrev pub shelfChecks : Words → Tickets → Words → Bool → List Check
-shelfChecks words tickets store wrongShelf =
-    check 1 (bookLengthWrong words)
-    ∷ check 19 (storeLengthWrong store)
-    ∷ check 14 (ticketStands tickets)
-    ∷ check 20 wrongShelf
-    ∷ []
+-- The checks of both calls, in order: 1; "19, store of another length, after 1 and before 14; 20 .. after 14".
+abbrev pub shelfRefusal : (bookWrong storeWrong stands shelfWrong : Bool) → Option ℕ
+shelfRefusal bookWrong storeWrong stands shelfWrong = firstOf (check 1 bookWrong ∷ check 19 storeWrong ∷ check 14 stands ∷ check 20 shelfWrong ∷ [])
 
 unfoldable pub fillRefusal : Words → Tickets → Words → ℕ → Option ℕ
-fillRefusal words tickets store shelf = firstOf (shelfChecks words tickets store (shelfUnknown shelf))
+fillRefusal words tickets store shelf = shelfRefusal (bookLengthWrong words) (storeLengthWrong store) (ticketStands tickets) (shelfUnknown shelf)
 
 unfoldable pub backRefusal : Words → Tickets → Words → Filled → ℕ → Option ℕ
-backRefusal words tickets store filled shelf = firstOf (shelfChecks words tickets store (neverFilled filled shelf))
+backRefusal words tickets store filled shelf = shelfRefusal (bookLengthWrong words) (storeLengthWrong store) (ticketStands tickets) (neverFilled filled shelf)
 
--- Filling: what it returns, the store and which shelves are filled. "Filling one again replaces what it kept." It writes no word of the book.
+-- Filling: what it returns, the store and which shelves are filled. "Filling one again replaces what it kept." It writes no word of the book. A refused
+-- call changes nothing and returns its number.
 abbrev pub filledBy : Option ℕ → Words → Words → Filled → ℕ → Outcome × Words × Filled
 filledBy none words store filled shelf = (outcomeOf none, withShelf store shelf words, set filled shelf true)
 filledBy (some refusal) words store filled shelf = (outcomeOf (some refusal), store, filled)
