@@ -1,27 +1,33 @@
--- Shelves: filled, come back to, filled again; other shelves remain; the counts since; and runs of wrong programs.
+-- Shelves: filled, come back to, filled again; other shelves remain; the counts since; the checks in their order; and runs of wrong programs.
 use Prim.Native.Nat.{ℕ}
 use native.Mathlib.Omega.{arith}
 use mathlib.Core.Path.{_≡_, refl, sym}
 use mathlib.Core.Bool.{Bool, true, false, false≢true}
 use mathlib.Core.List.{List, [], _∷_, _++_, map}
+use mathlib.Core.Option.{none, some}
 use lib.ListN.{getD, take, replicate}
 use Rattle.words.specs.Words.{Words, wordsInBook, wordsInStore}
-use Rattle.tickets.specs.Tickets.{freshTickets}
+use Rattle.tickets.specs.declared.Tickets.{Tickets}
+use Rattle.tickets.specs.declared.StepAnswer.{StepAnswer}
+use Rattle.tickets.specs.declared.StepAnswer.the-variants.{Claimed, Put, Granted}
+use Rattle.tickets.specs.Tickets.{freshTickets, withTicket, standsBelow}
 use Rattle.edits.specs.declared.Edit.{Edit}
 use Rattle.edits.specs.declared.Edit.the-variants.{Add}
-use Rattle.frames.specs.Request.{Open, Look}
+use Rattle.edits.specs.Opened.{openedTicket}
+use Rattle.frames.specs.Request.{Open, Step, Look}
+use Rattle.frames.specs.declared.Answer.the-variants as Answer
 use Rattle.plain.specs.Plain.{legsInBook}
 use Rattle.plain.specs.Editing.{addsIn}
-use Rattle.calls.specs.Outcomes.{standsBelow}
 use Rattle.calls.specs.Shelves.{Filled, noneFilled, fillRefusal, backRefusal, fillOf, backOf}
-use Rattle.calls.specs.Run.{Call, filling, comingBack, theStore, another, Run, run}
+use Rattle.calls.specs.Run.{Call, filling, comingBack, theStore, another, fresh, Heard, Run, run}
 use Rattle.calls.specs.Order.{Event, granted, decided, looked, filled, cameBack, notesOn}
 use Rattle.calls.specs.Linearizable.{Linearizable, play, heardOn, orderOf, plainAfter, bookAfter, grantedOf, untilBack, sinceBack}
+use Rattle.calls.specs.Returning.{isComeBackTo, withoutIdleFillings}
 use Rattle.calls.specs.Bench.{stations, thatMeasure, firstLeg}
-use Rattle.calls.proofs.ExampleCalls.{everyRun, calls, steps, leg}
+use Rattle.calls.proofs.ExampleCalls.{everyRun, calls, steps, heardAs, leg}
 
 unfoldable everyShelf : Unit {0}
-unfolding everyRun standsBelow fillRefusal backRefusal fillOf backOf
+unfolding everyRun standsBelow fillRefusal backRefusal fillOf backOf isComeBackTo withoutIdleFillings
 everyShelf = tt
 
 abbrev store : Words
@@ -94,11 +100,77 @@ again-order : orderOf store again
 unfolding everyShelf
 again-order = refl
 
+again-plain : plainAfter store again ≡ (leg 1 thatMeasure ∷ []) ∷ replicate 31 []
+unfolding everyShelf
+again-plain = refl
+
+again-words : take 2 (bookAfter store again) ≡ 1 ∷ 1 ∷ []
+unfolding everyShelf
+again-words = refl
+
+-- The fillings that none comes back to afterwards: that of shelf 0, and the second of shelf 2.
+abbrev idle : List Event
+idle = filled 0 ∷ decided granted first ∷ filled 2 ∷ cameBack 2 ∷ filled 2 ∷ filled 1 ∷ decided granted second ∷ cameBack 1 ∷ []
+
+idle-left-out : withoutIdleFillings idle ≡ decided granted first ∷ filled 2 ∷ cameBack 2 ∷ filled 1 ∷ decided granted second ∷ cameBack 1 ∷ []
+unfolding everyShelf
+idle-left-out = refl
+
+-- The checks of both calls in their order, two and more applying at once: a book and a store of another length, a ticket of the last team, and a shelf above 2 or never filled.
+abbrev zeros : Words
+zeros = replicate wordsInBook 0
+
+abbrev standing : Tickets
+standing = withTicket freshTickets 15 (openedTicket first)
+
+abbrev onlyFirst : Filled
+onlyFirst = true ∷ false ∷ false ∷ []
+
+fill-refusals : fillRefusal [] standing [] 3 ∷ fillRefusal zeros standing [] 3 ∷ fillRefusal zeros standing store 3 ∷ fillRefusal zeros freshTickets store 3 ∷ fillRefusal zeros freshTickets store 2 ∷ []
+    ≡ some 1 ∷ some 19 ∷ some 14 ∷ some 20 ∷ none ∷ []
+unfolding everyShelf
+fill-refusals = refl
+
+back-refusals :
+    backRefusal [] standing [] onlyFirst 1
+    ∷ backRefusal zeros standing [] onlyFirst 1
+    ∷ backRefusal zeros standing store onlyFirst 1
+    ∷ backRefusal zeros freshTickets store onlyFirst 1
+    ∷ backRefusal zeros freshTickets store onlyFirst 3
+    ∷ backRefusal zeros freshTickets store onlyFirst 0
+    ∷ []
+    ≡ some 1 ∷ some 19 ∷ some 14 ∷ some 20 ∷ some 20 ∷ none ∷ []
+unfolding everyShelf
+back-refusals = refl
+
+-- A refused call changes nothing, and has no place: a shelf above 2, one that was never filled, and another store.
+abbrev refused : List Call
+refused = filling 3 theStore ∷ comingBack 0 theStore ∷ comingBack 3 theStore ∷ filling 0 (another zeros) ∷ comingBack 0 (another []) ∷ []
+
+refused-numbers : returnedAt refused (0 ∷ 1 ∷ 2 ∷ 3 ∷ 4 ∷ []) ≡ 20 ∷ 20 ∷ 20 ∷ 19 ∷ 19 ∷ []
+unfolding everyShelf
+refused-numbers = refl
+
+refused-end : run store refused .end ≡ fresh store
+unfolding everyShelf
+refused-end = refl
+
+refused-order : orderOf store refused ≡ []
+unfolding everyShelf
+refused-order = refl
+
+-- A filling and a coming back that went, heard.
+abbrev fillHeard : Heard
+fillHeard = record { call = filling 0 theStore; returned = 0; output = [] }
+
+abbrev backHeard : Heard
+backHeard = record { call = comingBack 0 theStore; returned = 0; output = [] }
+
 -- Runs of wrong programs, for which demand 3 does not hold: shelf 0 of a fresh book is filled, and this store and these flags are left.
 abbrev left : Words → Filled → Run
 left kept flags = record {
   end = record { book = replicate wordsInBook 0; tickets = freshTickets; store = kept; filled = flags };
-  heard = record { call = filling 0 theStore; returned = 0; output = [] } ∷ [];
+  heard = fillHeard ∷ [];
 }
 
 -- One that keeps nothing.
@@ -110,3 +182,30 @@ keeps-nothing right = let shown : _≡_ {A = ℕ} 7 0 = right .shelves-agree [] 
 forgets-filling : Linearizable (left (replicate wordsInStore 0) noneFilled) → ⊥
 unfolding everyShelf
 forgets-filling right = false≢true (right .filled-heard 0)
+
+-- One that comes back to a shelf that was never filled. (Such a coming back is not written into the order, so that it is out of turn.)
+back-unfilled : Linearizable (record { end = fresh store; heard = backHeard ∷ [] }) → ⊥
+unfolding everyShelf
+back-unfilled right = let counted : _≡_ {A = ℕ} 1 0 = right .in-turn in omega arith
+
+-- One that fills a shelf of a fresh book and comes back to another book.
+back-elsewhere : Linearizable (record { end = record { book = 7 ∷ replicate 4095 0; tickets = freshTickets; store = replicate wordsInStore 0; filled = onlyFirst }; heard = fillHeard ∷ backHeard ∷ [] }) → ⊥
+unfolding everyShelf
+back-elsewhere right = let shown : _≡_ {A = ℕ} 7 0 = right .words-agree 0 (omega arith) (λ team held. false≢true held) in omega arith
+
+-- One that comes back to the fresh book of the filling, and grants an add behind a leg that was added in between: the counts sum to none, and one add was granted since.
+abbrev stepHeard : StepAnswer → Heard
+stepHeard answer = heardAs (Step 0) (Answer.Step answer)
+
+abbrev claims : List Heard
+claims = stepHeard (Claimed 1) ∷ stepHeard (Claimed 2) ∷ stepHeard (Claimed 3) ∷ stepHeard (Claimed 4) ∷ stepHeard (Claimed 5) ∷ []
+
+abbrev puts : List Heard
+puts = stepHeard (Put 1) ∷ stepHeard (Put 2) ∷ stepHeard (Put 3) ∷ stepHeard (Put 4) ∷ stepHeard (Granted 10) ∷ []
+
+keeps-adds : Linearizable (record {
+  end = fresh store;
+  heard = fillHeard ∷ heardAs (Open 0 first) (Answer.Standing 5) ∷ claims ++ puts ++ (backHeard ∷ heardAs (Open 0 second) (Answer.Standing 5) ∷ claims);
+}) → ⊥
+unfolding everyShelf
+keeps-adds right = let counted : _≡_ {A = ℕ} 0 1 = right .counts-add-up in omega arith
