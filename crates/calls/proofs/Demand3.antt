@@ -8,7 +8,7 @@ use Prim.Native.Nat.{ℕ, zero, suc, _<_}
 use native.Mathlib.Omega.{arith}
 use lib.ListN.{length, length-replicate}
 use borrow.Author.Tests.{eq-eqb}
-use Rattle.words.specs.Tests.{allHold}
+use Rattle.words.specs.Tests.{allHold, Every}
 use Rattle.words.specs.Words.{Words, wordsInBook, readOf, markOf}
 use Rattle.tickets.specs.declared.Phase.{Phase}
 use Rattle.tickets.specs.declared.Phase.the-variants.{NoTicket, Claiming, Putting, GivingBack, Viewing, Viewed}
@@ -27,7 +27,7 @@ use Rattle.calls.specs.Call.{badlyMade, doneOf, callOf}
 use Rattle.calls.specs.Shelves.{shelfOf, noneFilled, isFilled}
 use Rattle.calls.specs.Run.{Call, framed, filling, comingBack, Admitted, Shared, fresh, heardOf, leftBy, answerHeard, runFrom, run}
 use Rattle.calls.specs.Order.{stale, Event, decided, looked, seen, filled, cameBack, wasFilled, Asked, anEdit, aView, Noted, Notes, noNotes, hearAnswer, notesFrom, notesOn, holds, holdsWord}
-use Rattle.calls.specs.Linearizable.{freshState, keptOr, deedOf, feed, playFrom, play, grantedOf, sinceBack, untilBack, FoundFits, DecidedAtMostOnce, StandingRight, Every, heardOn, Demand3}
+use Rattle.calls.specs.Linearizable.{freshState, keptOr, deedOf, feed, playFrom, play, grantedOf, sinceBack, untilBack, FoundFits, DecidedAtMostOnce, StandingRight, heardOn, Demand3}
 use Rattle.calls.specs.Demand1.{TableFits}
 use Rattle.calls.specs.Linearizable.{StandsAsNoted}
 use Rattle.calls.proofs.Tables.{tables-stay}

@@ -8,10 +8,11 @@ use Prim.Native.Nat.{ℕ, zero, suc, _+_}
 use native.Mathlib.Omega.{arith}
 use lib.Dec.{eqb}
 use lib.ListN.{length, set}
+use Rattle.words.specs.Tests.{Every}
 use Rattle.edits.specs.declared.Edit.{Edit}
 use Rattle.plain.specs.Plain.{Plain, wordOf}
 use Rattle.calls.specs.Order.{Event, decided, looked, seen, reserved, filled, cameBack, finished, wasFilled}
-use Rattle.calls.specs.Linearizable.{PlainState, deedOf, feed, playFrom, verdictOf, grantedIn, grantedOf, isBack, hasBack, untilBack, sinceBack, Every}
+use Rattle.calls.specs.Linearizable.{PlainState, deedOf, feed, playFrom, verdictOf, grantedIn, grantedOf, isBack, hasBack, untilBack, sinceBack}
 
 -- The plain book after an order and one more event.
 pub play-last : (plain : PlainState) (events : List Event) (event : Event)

@@ -11,6 +11,7 @@ use lib.Dec.{eqb}
 use lib.ListN.{length, getD, getD-replicate}
 use lib.Seq.{ext-getD, getD-set-same, getD-set-other}
 use borrow.Author.Tests.{eqb-true, ltb-true, not-false}
+use Rattle.words.specs.Tests.{Every}
 use Rattle.words.proofs.Tests.{split}
 use Rattle.words.specs.Words.{Words, wordsInBook, shelfCount, wordsInStore, teamCount, readOf}
 use Rattle.tickets.specs.declared.Phase.{Phase}
@@ -31,7 +32,6 @@ use Rattle.calls.specs.Outcomes.{outcomeOf, numberOf, ticketStands}
 use Rattle.calls.specs.Shelves.{shelfAt, shelfOf, withShelf, Filled, storeLengthWrong, shelfUnknown, neverFilled, shelfRefusal, fillRefusal, backRefusal, filledBy, fillOf, backBy, backOf}
 use Rattle.calls.specs.Run.{Call, framed, filling, comingBack, theStore, another, Lent, LentRight, Admitted, Shared, fresh, onward, Heard, heardOf, leftBy, lentBy, storeAfter, runFrom, run}
 use Rattle.calls.specs.Order.{Notes, noNotes, hearCall, notesFrom}
-use Rattle.calls.specs.Linearizable.{Every}
 use Rattle.calls.specs.Demand1.{TableFits}
 use Rattle.calls.specs.Returning.{KeepsApart, ShelvesKeepApart, Went, NotFilled, returnedTo, ComesNotBack, ReturnsTo, ComingBackReturns}
 use Rattle.calls.proofs.Tables.{tables-stay, standing-inside}

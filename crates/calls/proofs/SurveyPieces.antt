@@ -10,7 +10,7 @@ use borrow.Author.Tests.{le-ltb, ltb-false}
 use lib.Dec.{ltb}
 use lib.ListN.{length, List·getD-append, length-append, length-replicate}
 use lib.Seq.{length-take-le, getD-take}
-use Rattle.words.specs.Tests.{someHolds}
+use Rattle.words.specs.Tests.{someHolds, Every}
 use Rattle.words.specs.Words.{wordsInBook}
 use Rattle.frames.specs.declared.Answer.the-variants.{Refused}
 use Rattle.frames.specs.Numbers.{Bytes}
@@ -19,10 +19,9 @@ use Rattle.frames.specs.Answers.{answerFrame, longestAnswer}
 use Rattle.frames.specs.Fields.{longestFrame}
 use Rattle.calls.specs.declared.Stop.{Stop}
 use Rattle.calls.specs.declared.Stop.the-variants.{MoreInput, OutputFull, BadLength, NoBook}
-use Rattle.calls.specs.Run.{Shared, fresh, runFrom}
-use Rattle.calls.specs.Linearizable.{Every}
+use Rattle.calls.specs.Run.{Shared, fresh, runFrom, sharing}
 use Rattle.calls.specs.Survey.{longestField, torn, firstFrame, afterFirstFrame, surveyOf, framesFrom, framesIn, joined, allWritten, restOf, atEnd}
-use Rattle.calls.specs.Stream.{sharing, WholeFrame, StartsWhole, StopRight, runOn, Roomy}
+use Rattle.calls.specs.Stream.{WholeFrame, StartsWhole, StopRight, runOn, Roomy}
 use Rattle.calls.specs.Pieces.{goesOn, Between, beginning, inputOf, turnOf, afterTurn, piecesFrom, RoomEachTurn, PiecesAreSurvey, PiecesHaveRoom}
 use Rattle.calls.proofs.Refusing.{tests-fail}
 use Rattle.calls.proofs.StreamRun.{stream-is-run}

@@ -9,6 +9,7 @@ use native.Mathlib.Omega.{arith}
 use native.Mathlib.Decide.{ℕ-discrete}
 use lib.ListN.{length}
 use borrow.Author.Tests.{eq-eqb, ne-eqb}
+use Rattle.words.specs.Tests.{Every}
 use Rattle.words.specs.Words.{Words, wordsInBook, shelfCount, wordsInStore, teamCount, readOf}
 use Rattle.tickets.specs.declared.Phase.{Phase}
 use Rattle.tickets.specs.declared.Ticket.{Ticket}
@@ -28,7 +29,7 @@ use Rattle.plain.specs.Plain.{Plain, wordOf, Sound}
 use Rattle.calls.specs.Shelves.{shelfOf, isFilled}
 use Rattle.calls.specs.Run.{Shared, onward}
 use Rattle.calls.specs.Order.{Event, wasFilled, Asked, countAsked, Noted, Ended, Notes, notes, retold, noteTicket, withClaimed, withStep, hearAllClaimed, hearClaimed, hearStepAnswer, hearStep, hearRequest}
-use Rattle.calls.specs.Linearizable.{play, EndedRight, TriesRight, Every}
+use Rattle.calls.specs.Linearizable.{play, EndedRight, TriesRight}
 use Rattle.calls.specs.Demand1.{TableFits}
 use Rattle.calls.proofs.Orders.{every-last, isFilling}
 use Rattle.calls.proofs.Ordered.{played, Ordered, PlaceKept, GoesOn, order-stays, place-stays, order-grows}

@@ -7,6 +7,7 @@ use mathlib.Core.Option.{Option, none, some}
 use mathlib.Core.Logic.{_⊎_}
 use lib.Dec.{eqb}
 use lib.ListN.{length}
+use Rattle.words.specs.Tests.{Every}
 use Rattle.words.specs.Words.{Words, wordsInBook, readOf, markOf}
 use Rattle.tickets.specs.Tickets.{ticketOf, hasTicket}
 use Rattle.tickets.specs.Steps.{mostTries}
@@ -202,10 +203,6 @@ StepsOf (wasSeen values) ticket = ticket .steps ≡ 2 * countAsked (ticket .aske
 abbrev pub TriesRight : Ended → Type 0
 TriesRight end = TellsTries (end .last) (min (end .ticket .steps) mostTries) × StepsOf (end .last) (end .ticket)
 
-abbrev pub Every : {A : Type 0} → (A → Type 0) → List A → Type 0
-Every P [] = Unit {0}
-Every P (item ∷ items) = P item × Every P items
-
 -- Of a list of calls: what was heard, the order, the plain book it makes, and the book's words that the calls left.
 abbrev pub heardOn : Words → List Call → List Heard
 heardOn store calls = run store calls .heard
@@ -258,8 +255,8 @@ pub record Linearizable (result : Run) : Type 0 where
       → word < wordsInBook
       → readOf (shelfOf (result .end .store) shelf) word ≡ wordOf (play before) word
   pub filled-heard : (shelf : ℕ) → isFilled (result .end .filled) shelf ≡ wasFilled shelf (order (result .heard))
-  -- The counts of all passages sum to granted adds less granted strikes; after a coming back, to the kept book's sum plus the adds granted since, less the
-  -- strikes granted since.
+  -- "The counts of all passages in the plain book, each the length of its list, sum to granted adds less granted strikes among the decided tickets"; after a coming back
+  -- "the counts sum to the kept book's sum plus the adds granted since, less the strikes granted since".
   pub counts-add-up :
       legsInBook (play (order (result .heard))) + grantedOf strikesIn (sinceBack (order (result .heard)))
       ≡ legsInBook (play (untilBack (order (result .heard)))) + grantedOf addsIn (sinceBack (order (result .heard)))

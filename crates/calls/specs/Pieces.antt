@@ -4,6 +4,7 @@ use mathlib.Core.Path.{_≡_}
 use mathlib.Core.Bool.{Bool, true, false, cond}
 use mathlib.Core.List.{List, [], _∷_, _++_}
 use lib.ListN.{length, drop}
+use Rattle.words.specs.Tests.{Every}
 use Rattle.words.specs.Words.{Words}
 use Rattle.tickets.specs.declared.Tickets.{Tickets}
 use Rattle.frames.specs.declared.Answer.the-variants.{Refused}
@@ -14,7 +15,6 @@ use Rattle.calls.specs.declared.Stop.{Stop}
 use Rattle.calls.specs.declared.Stop.the-variants.{MoreInput, OutputFull, BadLength, NoBook}
 use Rattle.calls.specs.declared.Streamed.{Streamed}
 use Rattle.calls.specs.Run.{fresh}
-use Rattle.calls.specs.Linearizable.{Every}
 use Rattle.calls.specs.Survey.{joined, atEnd, surveyOf}
 use Rattle.calls.specs.Stream.{streamOf, Roomy, bytesOf}
 

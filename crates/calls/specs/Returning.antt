@@ -6,13 +6,14 @@ use mathlib.Core.Bool.{Bool, true, false, cond}
 use mathlib.Core.Logic.{_≢_}
 use lib.Dec.{eqb}
 use lib.ListN.{length}
+use Rattle.words.specs.Tests.{Every}
 use Rattle.words.specs.Words.{Words, wordsInBook, shelfCount, wordsInStore}
 use Rattle.plain.specs.Plain.{legsInBook}
 use Rattle.plain.specs.Editing.{addsIn, strikesIn}
 use Rattle.calls.specs.Shelves.{shelfOf, withShelf}
 use Rattle.calls.specs.Run.{Call, framed, filling, comingBack, theStore, Admitted, Shared, Heard, heardOf, leftBy, runFrom, run}
 use Rattle.calls.specs.Order.{Event, decided, looked, seen, reserved, filled, cameBack, wasFilled}
-use Rattle.calls.specs.Linearizable.{play, grantedOf, hasBack, Every, orderOf, plainAfter}
+use Rattle.calls.specs.Linearizable.{play, grantedOf, hasBack, orderOf, plainAfter}
 
 -- Statement: a shelf keeps the book last put on it, "every word as kept"; "other shelves remain".
 pub record KeepsApart (store book : Words) (shelf : ℕ) : Type 0 where

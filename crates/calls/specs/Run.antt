@@ -53,6 +53,10 @@ fresh store = record { book = replicate wordsInBook 0; tickets = freshTickets; s
 abbrev pub onward : Shared → Words → Tickets → Shared
 onward shared book tickets = record { book = book; tickets = tickets; store = shared .store; filled = shared .filled }
 
+-- What calls share that lend no store, as a stream's do.
+abbrev pub sharing : Words → Tickets → Shared
+sharing words tickets = onward (fresh []) words tickets
+
 -- The store that a call lends, and the one store after it: another one is no part of what the calls share.
 abbrev pub lentBy : Shared → Lent → Words
 lentBy shared theStore = shared .store

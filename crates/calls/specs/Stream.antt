@@ -6,6 +6,7 @@ use mathlib.Core.List.{List, [], _++_}
 use mathlib.Core.Bool.{cond}
 use lib.ListN.{length, take, drop}
 use lib.Dec.{eqb, ltb}
+use Rattle.words.specs.Tests.{Every}
 use Rattle.words.specs.Words.{Words, wordsInBook}
 use Rattle.tickets.specs.declared.Tickets.{Tickets}
 use Rattle.frames.specs.Numbers.{Bytes, number16}
@@ -17,8 +18,7 @@ use Rattle.calls.specs.declared.Next.{Next}
 use Rattle.calls.specs.declared.Next.the-variants.{Frame, End}
 use Rattle.calls.specs.declared.Streamed.{Streamed}
 use Rattle.calls.specs.Call.{callOf}
-use Rattle.calls.specs.Run.{Shared, fresh, onward, Run, runFrom}
-use Rattle.calls.specs.Linearizable.{Every}
+use Rattle.calls.specs.Run.{Shared, fresh, onward, Run, runFrom, sharing}
 use Rattle.frames.specs.Fields.{longestFrame}
 use Rattle.calls.specs.Survey.{longestField, joined, allWritten, callsOn}
 
@@ -83,10 +83,6 @@ StopRight MoreInput rest room = (length rest < 2) ⊎ ((lengthField rest ≤ lon
 StopRight OutputFull rest room = StartsWhole rest × (room < longestAnswer)
 StopRight BadLength rest room = (2 ≤ length rest) × (longestField < lengthField rest)
 StopRight NoBook rest room = ⊥
-
--- A stream lends no store.
-abbrev pub sharing : Words → Tickets → Shared
-sharing words tickets = onward (fresh []) words tickets
 
 -- The single calls on frames, one after another.
 abbrev pub runOn : Shared → List Bytes → Run

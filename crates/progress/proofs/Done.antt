@@ -6,6 +6,7 @@ use mathlib.Core.List.{List}
 use mathlib.Core.Option.{Option, none, some}
 use native.Mathlib.Omega.{arith}
 use lib.ListN.{length}
+use Rattle.words.specs.Tests.{Every}
 use Rattle.words.specs.Words.{Words, wordsInBook, teamCount}
 use Rattle.legs.specs.Positions.{positionOf}
 use Rattle.tickets.specs.declared.Ticket.{Ticket}
@@ -17,7 +18,7 @@ use Rattle.edits.proofs.Stored.{stored-targets-rise}
 use Rattle.edits.proofs.Views.{view-targets-rise}
 use Rattle.calls.specs.Run.{Call, Admitted, Shared, run}
 use Rattle.calls.specs.Order.{Asked, anEdit, aView, wordsAsked, Noted, notesOn}
-use Rattle.calls.specs.Linearizable.{Every, heardOn}
+use Rattle.calls.specs.Linearizable.{heardOn}
 use Rattle.calls.proofs.Tied.{Tied, KnownAs}
 use Rattle.calls.proofs.Demand3.{run-table, run-good}
 use Rattle.progress.specs.Rounds.{EveryTicketGetsDone, AllRise}

@@ -8,7 +8,7 @@ use native.Mathlib.Omega.{arith}
 use native.Mathlib.Decide.{ℕ-discrete, decLt}
 use lib.ListN.{length, length-set, List·getD-eq-default}
 use borrow.Author.Tests.{eq-eqb, ne-eqb}
-use Rattle.words.specs.Tests.{occurs, distinct}
+use Rattle.words.specs.Tests.{occurs, distinct, Every}
 use Rattle.words.specs.Words.{wordsInBook, teamCount}
 use Rattle.words.proofs.Tests.{is-false}
 use Rattle.tickets.specs.declared.Ticket.{Ticket}
@@ -22,7 +22,6 @@ use Rattle.tickets.proofs.Stepping.{length-kept}
 use Rattle.tickets.proofs.WellMade.{fit-well-made}
 use Rattle.frames.specs.Answers.{longestAnswer}
 use Rattle.calls.specs.Run.{Shared, onward, leftBy, runFrom}
-use Rattle.calls.specs.Linearizable.{Every}
 use Rattle.calls.proofs.Tables.{standing-inside}
 use Rattle.progress.specs.Rounds.{Turn, stepCall, teamsIn, Stands, RoundFor, afterRound, afterRounds, RoundsFrom, targetsStanding, NoneStands, Waits}
 use Rattle.progress.proofs.Chain.{not-all-wait}

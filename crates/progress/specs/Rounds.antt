@@ -4,7 +4,7 @@ use mathlib.Core.Path.{_≡_}
 use mathlib.Core.List.{List, [], _∷_, map}
 use mathlib.Core.Bool.{true, false, cond}
 use lib.ListN.{length, replicate}
-use Rattle.words.specs.Tests.{occurs, distinct}
+use Rattle.words.specs.Tests.{occurs, distinct, Every}
 use Rattle.words.specs.Words.{Words, teamCount, readOf}
 use Rattle.tickets.specs.declared.Ticket.{Ticket}
 use Rattle.tickets.specs.declared.Tickets.{Tickets}
@@ -16,7 +16,6 @@ use Rattle.frames.specs.Request.{Step}
 use Rattle.frames.specs.Writing.{requestFrame}
 use Rattle.frames.specs.Answers.{longestAnswer}
 use Rattle.calls.specs.Run.{Call, framed, Admitted, Shared, runFrom, run}
-use Rattle.calls.specs.Linearizable.{Every}
 
 -- A team's turn in a round: a step, with an output of its own.
 pub record Turn : Type 0 where

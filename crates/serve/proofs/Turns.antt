@@ -9,15 +9,16 @@ use borrow.Author.Tests.{lt-ltb}
 use lib.Dec.{ltb}
 use lib.ListN.{length, take, drop, length-append, length-drop, length-replicate, take-append-drop}
 use lib.Seq.{take-at, take-add, drop-append-le, length-take-le, length-slice}
+use Rattle.calls.specs.Run.{sharing}
+use Rattle.words.specs.Tests.{Every}
 use Rattle.words.specs.Words.{Words, wordsInBook}
 use Rattle.frames.specs.declared.Answer.the-variants.{Refused}
 use Rattle.frames.specs.Numbers.{Bytes}
 use Rattle.frames.specs.Answers.{answerFrame}
 use Rattle.frames.specs.Fields.{longestFrame}
 use Rattle.calls.specs.declared.Streamed.{Streamed}
-use Rattle.calls.specs.Linearizable.{Every}
 use Rattle.calls.specs.Survey.{joined, allWritten, atEnd}
-use Rattle.calls.specs.Stream.{streamOf, roomIn, withRoom, sharing, runOn, StreamRight, Roomy, bytesOf}
+use Rattle.calls.specs.Stream.{streamOf, roomIn, withRoom, runOn, StreamRight, Roomy, bytesOf}
 use Rattle.calls.specs.Pieces.{goesOn, Between, turnOf, afterTurn, piecesFrom, RoomEachTurn}
 use Rattle.calls.proofs.StreamRun.{stream-is-run}
 use Rattle.calls.proofs.StreamPieces.{left-length}

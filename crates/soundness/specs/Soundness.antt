@@ -6,12 +6,13 @@ use mathlib.Core.Bool.{true}
 use mathlib.Core.Logic.{_↔_, _≢_}
 use lib.ListN.{length}
 use lib.IntN.{ℤ}
+use Rattle.words.specs.Tests.{Every}
 use Rattle.words.specs.Words.{Words, wordsInBook, lastLeg, measureWord, readOf}
 use Rattle.legs.specs.Legs.{compassUnit, clinoUnit, clinoOffset, isPlumb}
 use Rattle.plain.specs.Plain.{Plain, wordOf, Sound}
 use Rattle.calls.specs.Run.{Call, Admitted}
 use Rattle.calls.specs.Order.{HeldBy}
-use Rattle.calls.specs.Linearizable.{Every, heardOn, bookAfter}
+use Rattle.calls.specs.Linearizable.{heardOn, bookAfter}
 use Rattle.soundness.specs.declared.Checked.the-variants.{Yes, No}
 use Rattle.soundness.specs.Answering.{scratchBytes, checkOf}
 
