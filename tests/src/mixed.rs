@@ -1,7 +1,7 @@
 //! Mixed lists written: teams at work, shelves filled and come back to in between.
 
 use crate::demand3::Watch;
-use crate::frames::{parse, split, Field::*, Request};
+use crate::frames::{split, Request};
 use crate::layout::WORDS;
 use crate::lists::Call;
 use crate::model::Desk;
@@ -9,17 +9,6 @@ use crate::rounds::ORDERS;
 use crate::shelves::{Lent, SHELVES, STORE};
 use crate::streams::{Author, Prng};
 use std::collections::BTreeMap;
-
-/// A frame whose plumb legs have compass 0, which is how request 6 takes them.
-fn plumb_at_0(frame: &[u8]) -> Vec<u8> {
-    let Ok(mut request) = parse(frame) else { return frame.to_vec() };
-    for (clino, compass) in [(Clino, Compass), (NewClino, NewCompass)] {
-        if request.form().contains(&clino) && request.get(clino).abs() == 9_000 {
-            request.set(compass, 0);
-        }
-    }
-    request.bytes()
-}
 
 /// What a shelf keeps, and the frames since its filling.
 struct Filling {
@@ -51,7 +40,7 @@ impl ListAuthor {
         self.author.bytes.clear();
         say(&mut self.author);
         for frame in split(&self.author.bytes) {
-            self.calls.push(Call::frame(&plumb_at_0(frame)));
+            self.calls.push(Call::frame(frame));
             self.kept.values_mut().for_each(|filling| filling.since.push(frame.to_vec()));
         }
     }

@@ -27,10 +27,8 @@ struct Lent {}
 impl Lent {
     const INPUT: usize = 1048576;
 
-    const SHELVES: usize = 3;
-
     // For one word more than a store has.
-    const STORE: usize = Lent::SHELVES * Limits::WORDS + 1;
+    const STORE: usize = Limits::SHELVES * Limits::WORDS + 1;
 }
 
 struct Tag {}
@@ -122,16 +120,16 @@ fn tell_flag(flag: bool) {
     say::number(0);
 }
 
-fn tell_flags(filled: &[bool; Lent::SHELVES]) {
+fn tell_flags(filled: &[bool; Limits::SHELVES]) {
     let mut shelf: usize = 0;
-    while shelf < Lent::SHELVES {
+    while shelf < Limits::SHELVES {
         tell_flag(filled[shelf]);
         shelf += 1;
     }
     say::end();
 }
 
-fn tell(words: &[u64], store: &[u64], filled: &[bool; Lent::SHELVES], out: &[u8]) {
+fn tell(words: &[u64], store: &[u64], filled: &[bool; Limits::SHELVES], out: &[u8]) {
     say::text(b"book");
     tell_digests(words);
     say::text(b"store");
@@ -155,9 +153,9 @@ fn set_words(words: &mut [u64], number: u16)
     }
 }
 
-fn empty_shelves(filled: &mut [bool; Lent::SHELVES]) {
+fn empty_shelves(filled: &mut [bool; Limits::SHELVES]) {
     let mut shelf: usize = 0;
-    while shelf < Lent::SHELVES {
+    while shelf < Limits::SHELVES {
         filled[shelf] = false;
         shelf += 1;
     }
@@ -166,7 +164,7 @@ fn empty_shelves(filled: &mut [bool; Lent::SHELVES]) {
 fn begin(
     words: &mut [u64; Room::WORDS],
     store: &mut [u64; Lent::STORE],
-    filled: &mut [bool; Lent::SHELVES],
+    filled: &mut [bool; Limits::SHELVES],
     number: u16,
 ) -> Tickets
     requires { ⌜ number < 65536 ⌝ }
@@ -214,7 +212,7 @@ fn fill(
     words: &[u64],
     tickets: Tickets,
     space: &mut [u64],
-    filled: &mut [bool; Lent::SHELVES],
+    filled: &mut [bool; Limits::SHELVES],
     given: &[u8],
 )
     requires { ⌜ 10 ≤ length (now given) ⌝ }
@@ -231,7 +229,7 @@ fn come_back(
     words: &mut [u64],
     tickets: Tickets,
     space: &[u64],
-    filled: &[bool; Lent::SHELVES],
+    filled: &[bool; Limits::SHELVES],
     given: &[u8],
 )
     requires { ⌜ 10 ≤ length (now given) ⌝ }
@@ -249,7 +247,7 @@ fn obey(
     words: &mut [u64; Room::WORDS],
     tickets: Tickets,
     store: &mut [u64; Lent::STORE],
-    filled: &mut [bool; Lent::SHELVES],
+    filled: &mut [bool; Limits::SHELVES],
     out: &mut [u8; Room::OUTPUT],
     given: &[u8],
 ) -> Tickets
@@ -293,7 +291,7 @@ fn first_call(rest: &[u8]) -> usize
 fn obey_all(
     words: &mut [u64; Room::WORDS],
     store: &mut [u64; Lent::STORE],
-    filled: &mut [bool; Lent::SHELVES],
+    filled: &mut [bool; Limits::SHELVES],
     out: &mut [u8; Room::OUTPUT],
     input: &[u8],
 ) {
@@ -315,7 +313,7 @@ fn obey_all(
 fn obey_input(
     words: &mut [u64; Room::WORDS],
     store: &mut [u64; Lent::STORE],
-    filled: &mut [bool; Lent::SHELVES],
+    filled: &mut [bool; Limits::SHELVES],
     out: &mut [u8; Room::OUTPUT],
     buffer: &mut [u8],
 ) {
@@ -327,7 +325,7 @@ fn obey_input(
 fn obey_with(
     words: &mut [u64; Room::WORDS],
     store: &mut [u64; Lent::STORE],
-    filled: &mut [bool; Lent::SHELVES],
+    filled: &mut [bool; Limits::SHELVES],
     out: &mut [u8; Room::OUTPUT],
     buffer: &mut [u8; Lent::INPUT],
 ) {
@@ -337,7 +335,7 @@ fn obey_with(
 fn main() {
     let mut words = [0u64; Room::WORDS];
     let mut store = [0u64; Lent::STORE];
-    let mut filled = [false; Lent::SHELVES];
+    let mut filled = [false; Limits::SHELVES];
     let mut out = [0u8; Room::OUTPUT];
     let mut buffer = [0u8; Lent::INPUT];
     obey_with(&mut words, &mut store, &mut filled, &mut out, &mut buffer);
