@@ -243,7 +243,7 @@ fn come_back(
 }
 
 // One call of the list; a tag that isn't known is passed over.
-fn obey(
+fn dispatch(
     words: &mut [u64; Room::WORDS],
     tickets: Tickets,
     store: &mut [u64; Lent::STORE],
@@ -288,7 +288,7 @@ fn first_call(rest: &[u8]) -> usize
     count
 }
 
-fn obey_all(
+fn dispatch_all(
     words: &mut [u64; Room::WORDS],
     store: &mut [u64; Lent::STORE],
     filled: &mut [bool; Limits::SHELVES],
@@ -305,12 +305,12 @@ fn obey_all(
         }
         let end = at + count;
         let given = &input[at..end];
-        tickets = obey(words, tickets, store, filled, out, given);
+        tickets = dispatch(words, tickets, store, filled, out, given);
         at = end;
     }
 }
 
-fn obey_input(
+fn dispatch_input(
     words: &mut [u64; Room::WORDS],
     store: &mut [u64; Lent::STORE],
     filled: &mut [bool; Limits::SHELVES],
@@ -318,18 +318,18 @@ fn obey_input(
     buffer: &mut [u8],
 ) {
     let have = io::read_full(STDIN_FILENO, buffer);
-    obey_all(words, store, filled, out, &buffer[0..have]);
+    dispatch_all(words, store, filled, out, &buffer[0..have]);
 }
 
 // Takes the buffer as an array, so that the length of a million zeros is known by their type and is not counted.
-fn obey_with(
+fn dispatch_with(
     words: &mut [u64; Room::WORDS],
     store: &mut [u64; Lent::STORE],
     filled: &mut [bool; Limits::SHELVES],
     out: &mut [u8; Room::OUTPUT],
     buffer: &mut [u8; Lent::INPUT],
 ) {
-    obey_input(words, store, filled, out, buffer);
+    dispatch_input(words, store, filled, out, buffer);
 }
 
 fn main() {
@@ -338,5 +338,5 @@ fn main() {
     let mut filled = [false; Limits::SHELVES];
     let mut out = [0u8; Room::OUTPUT];
     let mut buffer = [0u8; Lent::INPUT];
-    obey_with(&mut words, &mut store, &mut filled, &mut out, &mut buffer);
+    dispatch_with(&mut words, &mut store, &mut filled, &mut out, &mut buffer);
 }

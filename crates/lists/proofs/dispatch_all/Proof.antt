@@ -1,9 +1,9 @@
--- `lists::obey_all` meets its contract: each call starts in the input.
+-- `lists::dispatch_all` meets its contract: each call starts in the input.
 use borrow.Author.Needs.{needs}
 use Prim.Native.Nat.{_-_, _≤_}
 use lib.ListN.{length}
-use Rattle.lists.proofs.obey_all.Statement.{statement}
-use Rattle.lists.proofs.obey_all.Tie as tie
+use Rattle.lists.proofs.dispatch_all.Statement.{statement}
+use Rattle.lists.proofs.dispatch_all.Tie as tie
 
 abbrev Inv-loop : tie.InvT-loop
 Inv-loop words₀ store₀ filled₀ out₀ input tickets₀ at₀ words store filled out tickets at = at ≤ length input
@@ -44,8 +44,8 @@ part-given-start c = search needs
 part-given-end : tie.Need-part-given-end Inv-loop μ-loop
 part-given-end c = search needs
 
-obey-requires : tie.Need-obey-requires Inv-loop μ-loop
-obey-requires c κs = search needs
+dispatch-requires : tie.Need-dispatch-requires Inv-loop μ-loop
+dispatch-requires c κs = search needs
 
 loop-less : tie.Need-loop-less Inv-loop μ-loop
 loop-less c = search needs
@@ -56,8 +56,8 @@ loop-again c = search needs
 returns-2 : tie.Need-returns-2 Inv-loop μ-loop
 returns-2 c = search needs
 
-pub obey-all-spec : {M : Type 1} → statement M
-obey-all-spec =
+pub dispatch-all-spec : {M : Type 1} → statement M
+dispatch-all-spec =
     tie.close
     (tie.spec
     Inv-loop
@@ -73,7 +73,7 @@ obey-all-spec =
     sub-given
     part-given-start
     part-given-end
-    obey-requires
+    dispatch-requires
     loop-less
     loop-again
     returns-2)
