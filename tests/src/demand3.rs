@@ -200,6 +200,8 @@ impl Heard {
 pub struct Watch {
     pub plain: Plain,
     teams: BTreeMap<i64, Heard>,
+    /// The counts' sum in the book last come back to, and what was granted since.
+    kept: i64,
     adds: i64,
     strikes: i64,
 }
@@ -216,7 +218,20 @@ fn demand(holds: bool, complaint: impl FnOnce() -> String) -> Verdict {
 
 impl Watch {
     pub fn new() -> Watch {
-        Watch { plain: Plain::fresh(), teams: BTreeMap::new(), adds: 0, strikes: 0 }
+        Watch { plain: Plain::fresh(), teams: BTreeMap::new(), kept: 0, adds: 0, strikes: 0 }
+    }
+
+    /// Whether no ticket was heard to stand.
+    pub fn is_idle(&self) -> bool {
+        self.teams.is_empty()
+    }
+
+    /// "coming back takes its place in the order and makes the plain book that of the
+    /// filling. From then on the counts sum to the kept book's sum plus the adds
+    /// granted since, less the strikes granted since."
+    pub fn come_back(&mut self, filling: &Plain) {
+        self.plain = filling.clone();
+        (self.kept, self.adds, self.strikes) = (filling.legs(), 0, 0);
     }
 
     pub fn is_busy(&self, team: i64) -> bool {
@@ -410,7 +425,8 @@ impl Watch {
         self.check_leg(heard.opener.get(R))?;
         // "the counts of all passages in the plain book, each the length of its
         // list, sum to granted adds less granted strikes"
-        demand(self.plain.legs() == self.adds - self.strikes, || "counts don't add up".to_string())
+        let sum = self.kept + self.adds - self.strikes;
+        demand(self.plain.legs() == sum, || "counts don't add up".to_string())
     }
 
     /// The decided leg keeps the plain book's rules.

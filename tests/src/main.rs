@@ -9,9 +9,12 @@ mod demand3;
 mod frames;
 mod layout;
 mod lent;
+mod lists;
+mod mixed;
 mod model;
 mod rounds;
 mod serve;
+mod shelves;
 mod streams;
 mod tally;
 mod wrong;
@@ -28,6 +31,7 @@ const USAGE: &str = "usage:
   tests stored DIR [--check]
   tests lent FILE [--check]
   tests books DIR [--check]
+  tests lists DIR [--check | --wrong FAULT]
   tests serve [--wrong FAULT]";
 
 fn main() -> ExitCode {
@@ -57,6 +61,12 @@ fn run(words: &[&str]) -> Result<String, String> {
         ["lent", file, "--check"] => lent::check(&read_text(file)?),
         ["books", dir] => store_books(Path::new(dir)),
         ["books", dir, "--check"] => check_books(Path::new(dir)),
+        ["lists", dir] => store_lists(Path::new(dir)),
+        ["lists", dir, "--check"] => check_lists(Path::new(dir)),
+        ["lists", dir, "--wrong", name] => {
+            let fault = shelves::named(name).ok_or(USAGE)?;
+            wrong_lists(Path::new(dir), fault)
+        }
         ["serve"] => serve_as(None),
         ["serve", "--wrong", name] => serve_as(Some(wrong::named(name).ok_or(USAGE)?)),
         _ => Err(USAGE.to_string()),
@@ -145,6 +155,34 @@ fn check_books(dir: &Path) -> Result<String, String> {
         return Err(format!("the stored answers to books differ from the model's, case {line:?}"));
     }
     books::summary(&output)
+}
+
+/// Writes a mixed list of calls, and what the model says of each.
+fn store_lists(dir: &Path) -> Result<String, String> {
+    let input = mixed::stored();
+    let failed = |error: std::io::Error| error.to_string();
+    fs::create_dir_all(dir).map_err(failed)?;
+    let output = lists::answered(&lists::calls_of(&input)?, None);
+    fs::write(dir.join("stdout"), output).map_err(failed)?;
+    fs::write(dir.join("stdin"), &input).map_err(failed)?;
+    check_lists(dir)
+}
+
+fn read_lists(dir: &Path) -> Result<(Vec<u8>, String), String> {
+    let input = fs::read(dir.join("stdin")).map_err(|error| format!("stdin: {error}"))?;
+    Ok((input, read_text(&dir.join("stdout").to_string_lossy())?))
+}
+
+fn check_lists(dir: &Path) -> Result<String, String> {
+    let (input, output) = read_lists(dir)?;
+    lists::check(&input, &output)
+}
+
+/// Complains of the first line that a wrong program has otherwise.
+fn wrong_lists(dir: &Path, fault: shelves::Fault) -> Result<String, String> {
+    let (input, output) = read_lists(dir)?;
+    lists::same(&output, &lists::answered(&lists::calls_of(&input)?, Some(fault)))?;
+    Ok("the stored list doesn't tell this fault".to_string())
 }
 
 fn read_text(file: &str) -> Result<String, String> {

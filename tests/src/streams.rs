@@ -277,8 +277,8 @@ pub struct Author {
     pub rng: Prng,
     pub bytes: Vec<u8>,
     pub frames: i64,
-    desk: Desk,
-    watch: Watch,
+    pub desk: Desk,
+    pub watch: Watch,
     old_view: Plain,
     site: Site,
 }

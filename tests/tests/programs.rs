@@ -90,3 +90,15 @@ fn a_lent_text_is_checked() {
     let output = tests(&["lent", file.to_str().expect("a readable name"), "--check"]);
     assert!(!output.status.success() && said(&output).contains("model: = returns 12"));
 }
+
+#[test]
+fn the_stored_lists_are_checked() {
+    let dir = folder("lists");
+    let name = dir.to_str().expect("a readable name");
+    assert!(tests(&["lists", name]).status.success());
+    let wrong = tests(&["lists", name, "--wrong", "first-filling"]);
+    assert!(!wrong.status.success() && said(&wrong).contains("program: store"));
+    let output = std::fs::read_to_string(dir.join("stdout")).expect("stored");
+    std::fs::write(dir.join("stdout"), output.replacen("19", "14", 1)).expect("written");
+    assert!(!tests(&["lists", name, "--check"]).status.success());
+}

@@ -1,15 +1,15 @@
 -- Demand 3: one claim about every list of calls.
 use mathlib.Core.Path.{_≡_, refl, sym, ap, subst, _∙_}
-use mathlib.Core.Bool.{Bool, true, false, not, false≢true}
-use mathlib.Core.List.{List, [], _∷_}
+use mathlib.Core.Bool.{Bool, true, false, cond, not, false≢true}
+use mathlib.Core.List.{List, [], _∷_, _++_, map}
 use mathlib.Core.Option.{Option, none, some}
 use mathlib.Core.Logic.{inl, inr}
-use Prim.Native.Nat.{ℕ, _<_}
+use Prim.Native.Nat.{ℕ, zero, suc, _<_}
 use native.Mathlib.Omega.{arith}
 use lib.ListN.{length, length-replicate}
 use borrow.Author.Tests.{eq-eqb}
-use Rattle.words.specs.Tests.{allHold}
-use Rattle.words.specs.Words.{wordsInBook, readOf, markOf}
+use Rattle.words.specs.Tests.{allHold, Every}
+use Rattle.words.specs.Words.{Words, wordsInBook, readOf, markOf}
 use Rattle.tickets.specs.declared.Phase.{Phase}
 use Rattle.tickets.specs.declared.Phase.the-variants.{NoTicket, Claiming, Putting, GivingBack, Viewing, Viewed}
 use Rattle.tickets.specs.declared.Ticket.{Ticket}
@@ -21,35 +21,45 @@ use Rattle.tickets.proofs.Looking.{unheld-plain}
 use Rattle.tickets.proofs.WellMade.{fit-well-made}
 use Rattle.edits.specs.declared.Edit.{Edit}
 use Rattle.frames.specs.Numbers.{Bytes, areBytes}
-use Rattle.plain.specs.Plain.{freshPlain, wordOf}
+use Rattle.plain.specs.Plain.{Plain, freshPlain, wordOf}
 use Rattle.plain.proofs.EditLaws.{fresh-is-sound}
 use Rattle.calls.specs.Call.{badlyMade, doneOf, callOf}
-use Rattle.calls.specs.Run.{Call, framed, OfBytes, Shared, fresh, heardOf, leftBy, answerHeard, runFrom, run}
-use Rattle.calls.specs.Order.{stale, decided, looked, seen, Asked, anEdit, aView, Noted, Notes, noNotes, hearAnswer, notesFrom, notesOn, holds, holdsWord}
-use Rattle.calls.specs.Linearizable.{playFrom, play, grantedOf, FoundFits, DecidedAtMostOnce, StandingRight, Every, heardOn, Demand3}
+use Rattle.calls.specs.Shelves.{shelfOf, noneFilled, isFilled}
+use Rattle.calls.specs.Run.{Call, framed, filling, comingBack, Admitted, Shared, fresh, heardOf, leftBy, answerHeard, runFrom, run}
+use Rattle.calls.specs.Order.{stale, Event, decided, looked, seen, filled, cameBack, wasFilled, Asked, anEdit, aView, Noted, Notes, noNotes, hearAnswer, notesFrom, notesOn, holds, holdsWord}
+use Rattle.calls.specs.Linearizable.{freshState, keptOr, deedOf, feed, playFrom, play, grantedOf, sinceBack, untilBack, FoundFits, DecidedAtMostOnce, StandingRight, heardOn, Demand3}
 use Rattle.calls.specs.Demand1.{TableFits}
 use Rattle.calls.specs.Linearizable.{StandsAsNoted}
 use Rattle.calls.proofs.Tables.{tables-stay}
 use Rattle.calls.proofs.Hearing.{answers-heard}
-use Rattle.calls.proofs.Orders.{RightFrom, right-at, play-finished}
-use Rattle.calls.proofs.Ordered.{Ordered, finished-ordered}
+use Rattle.calls.proofs.Orders.{IsKept, RightFrom, right-at, play-last, play-finished, play-both, unfilled, filled-finished}
+use Rattle.calls.proofs.Ordered.{played, Ordered, finished-ordered}
 use Rattle.calls.proofs.Freshness.{fresh-words, fresh-legs, fresh-slots, fresh-table}
 use Rattle.calls.proofs.Tied.{HeardIn, KnownAs, Tied, known-stands, holds-heard, heard-holds}
-use Rattle.calls.proofs.Turns.{Good}
+use Rattle.calls.proofs.Turns.{ShelfTied, Good}
 use Rattle.calls.proofs.Kept.{call-kept}
+use Rattle.calls.proofs.Shelving.{filling-kept, coming-back-kept}
 
 -- At the start.
 fresh-ordered : Ordered []
-unfolding playFrom grantedOf
-fresh-ordered = record { sound = fresh-is-sound; right = tt; counts = omega (arith, fresh-legs) }
+unfolding playFrom grantedOf sinceBack untilBack
+fresh-ordered = record { sound = fresh-is-sound; right = tt; counts = refl }
 
-fresh-good : Good fresh noNotes
-unfolding playFrom
-fresh-good = record {
+-- No shelf is filled.
+fresh-flags : (shelf : ℕ) → isFilled noneFilled shelf ≡ false
+fresh-flags zero = refl
+fresh-flags (suc zero) = refl
+fresh-flags (suc (suc zero)) = refl
+fresh-flags (suc (suc (suc shelf))) = refl
+
+pub fresh-good : (store : Words) → Good (fresh store) noNotes
+unfolding playFrom wasFilled
+fresh-good store = record {
   whole = length-replicate {A = ℕ} wordsInBook 0;
   agree = holds-at-start wordsInBook (ticketOf freshTickets) (wordOf freshPlain) fresh-slots (λ word below. fresh-words word);
   tied = fresh-slots;
   ordered = fresh-ordered;
+  shelved = record { flags = refl; tied = fresh-flags; heard = fresh-flags };
   places = λ team. tt;
   ends = tt;
   tries = tt;
@@ -125,10 +135,14 @@ unfolding callOf
 left-kept shared n table good frame out bytes = call-kept shared n table good frame out bytes
 
 -- Every call of a list keeps the invariant.
-calls-keep : (calls : List Call) → Every OfBytes calls → (shared : Shared) (n : Notes) → TableFits (shared .tickets) → Good shared n
+pub calls-keep : (calls : List Call) → Every Admitted calls → (shared : Shared) (n : Notes) → TableFits (shared .tickets) → Good shared n
     → Good (runFrom shared calls .end) (notesFrom n (runFrom shared calls .heard))
 unfolding runFrom notesFrom
 calls-keep [] bytes shared n table good = good
+calls-keep (filling shelf lent ∷ calls) bytes shared n table good =
+    calls-keep calls (bytes .1) (leftBy shared (filling shelf lent)) _ table (filling-kept shared n table good shelf lent (bytes .0))
+calls-keep (comingBack shelf lent ∷ calls) bytes shared n table good =
+    calls-keep calls (bytes .1) (leftBy shared (comingBack shelf lent)) _ table (coming-back-kept shared n table good shelf lent (bytes .0))
 calls-keep (framed frame out ∷ calls) bytes shared n table good =
     calls-keep calls (bytes .1) (leftBy shared (framed frame out)) _ (tables-stay (shared .book) (shared .tickets) frame out table) one-kept
   where
@@ -140,29 +154,68 @@ calls-keep (framed frame out ∷ calls) bytes shared n table good =
 pub tables-run : (calls : List Call) (shared : Shared) → TableFits (shared .tickets) → TableFits (runFrom shared calls .end .tickets)
 unfolding runFrom
 tables-run [] shared table = table
+tables-run (filling shelf lent ∷ calls) shared table = tables-run calls (leftBy shared (filling shelf lent)) table
+tables-run (comingBack shelf lent ∷ calls) shared table = tables-run calls (leftBy shared (comingBack shelf lent)) table
 tables-run (framed frame out ∷ calls) shared table = tables-run calls (leftBy shared (framed frame out)) (tables-stay (shared .book) (shared .tickets) frame out table)
 
-pub run-table : (calls : List Call) → TableFits (run calls .end .tickets)
-run-table calls = tables-run calls fresh fresh-table
+pub run-table : (store : Words) (calls : List Call) → TableFits (run store calls .end .tickets)
+run-table store calls = tables-run calls (fresh store) fresh-table
 
-pub run-good : (calls : List Call) → Every OfBytes calls → Good (run calls .end) (notesOn (heardOn calls))
-run-good calls bytes = calls-keep calls bytes fresh noNotes fresh-table fresh-good
+pub run-good : (store : Words) (calls : List Call) → Every Admitted calls → Good (run store calls .end) (notesOn (heardOn store calls))
+run-good store calls bytes = calls-keep calls bytes (fresh store) noNotes fresh-table (fresh-good store)
+
+pub append-both : (xs ys zs : List Event) → (xs ++ ys) ++ zs ≡ xs ++ (ys ++ zs)
+append-both [] ys zs = refl
+append-both (x ∷ xs) ys zs = ap (λ l. x ∷ l) (append-both xs ys zs)
+
+-- A shelf that is come back to was filled,
+was-filled : (events : List Event) (shelf : ℕ) → IsKept (playFrom freshState (map deedOf events) .shelves shelf) → wasFilled shelf events ≡ true
+was-filled events shelf kept = by (wasFilled shelf events) refl
+  where
+    by : (b : Bool) → wasFilled shelf events ≡ b → wasFilled shelf events ≡ true
+    by true is = is
+    by false is = absurd (subst IsKept (unfilled freshState events shelf is) kept)
+
+-- and keeps the plain book of its last filling.
+kept-since : (before after : List Event) (shelf : ℕ) → wasFilled shelf after ≡ false → playFrom freshState (map deedOf (before ++ (filled shelf ∷ after))) .shelves shelf ≡ some (play before)
+unfolding playFrom
+kept-since before after shelf none-filled =
+    ap (λ state. state .shelves shelf) (play-both freshState before (filled shelf ∷ after))
+    ∙ unfilled (feed (playFrom freshState (map deedOf before)) (deedOf (filled shelf))) after shelf none-filled
+    ∙ ap (λ b. cond b (some (play before)) (playFrom freshState (map deedOf before) .shelves shelf)) (eq-eqb shelf shelf refl)
+
+returned : (before between : List Event) (shelf : ℕ) → wasFilled shelf between ≡ false → play (before ++ (filled shelf ∷ (between ++ (cameBack shelf ∷ [])))) ≡ play before
+returned before between shelf none-filled =
+    ap (λ l. play l) (sym (append-both before (filled shelf ∷ between) (cameBack shelf ∷ [])))
+    ∙ ap (λ state. state .book) (play-last freshState (before ++ (filled shelf ∷ between)) (cameBack shelf))
+    ∙ ap (keptOr (play (before ++ (filled shelf ∷ between)))) (kept-since before between shelf none-filled)
+
+shelf-agrees : (store : Words) (flag : Bool) (shelf : ℕ) (kept : Option Plain) (plain : Plain) → kept ≡ some plain → ShelfTied store flag shelf kept
+    → (word : ℕ) → word < wordsInBook → readOf (shelfOf store shelf) word ≡ wordOf plain word
+shelf-agrees store flag shelf kept plain is tied word inside = subst (ShelfTied store flag shelf) is tied .1 .words word inside
 
 pub demand3 : Demand3
 unfolding holds
-demand3 calls bytes =
-    let good = run-good calls bytes in
-    let shared = run calls .end in
-    let n = notesOn (heardOn calls) in
+demand3 store calls bytes =
+    let good = run-good store calls bytes in
+    let shared = run store calls .end in
+    let n = notesOn (heardOn store calls) in
     -- the order without the places only reserved
     let ordered = finished-ordered (n .order) (good .ordered) in
     record {
-      granted-succeed = λ before after verdict edit is. right-at freshPlain before after (decided verdict edit) (subst (RightFrom freshPlain) is (ordered .right));
-      looks-agree = λ before after word value is. right-at freshPlain before after (looked word value) (subst (RightFrom freshPlain) is (ordered .right));
-      views-agree = λ before after words values is. right-at freshPlain before after (seen words values) (subst (RightFrom freshPlain) is (ordered .right));
-      words-agree = λ word inside unheld. unheld-agrees shared n good word inside unheld ∙ ap (λ plain. wordOf plain word) (sym (play-finished freshPlain (n .order)));
+      granted-succeed = λ before after verdict edit is. right-at freshState before after (decided verdict edit) (subst (RightFrom freshState) is (ordered .right));
+      looks-agree = λ before after word value is. right-at freshState before after (looked word value) (subst (RightFrom freshState) is (ordered .right));
+      views-agree = λ before after words values is. right-at freshState before after (seen words values) (subst (RightFrom freshState) is (ordered .right));
+      words-agree = λ word inside unheld. unheld-agrees shared n good word inside unheld ∙ ap (λ state. wordOf (state .book) word) (sym (play-finished freshState (n .order)));
       last-answers = good .ends;
       decided-once = λ team. standing-right (ticketOf (shared .tickets) team) (n .tickets team) (good .tied team);
+      comes-back = λ before between after shelf is none-filled. returned before between shelf none-filled;
+      backs-filled = λ before after shelf is. was-filled before shelf (right-at freshState before after (cameBack shelf) (subst (RightFrom freshState) is (ordered .right)));
+      shelves-agree = λ before after shelf word is none-filled inside.
+          shelf-agrees (shared .store) (isFilled (shared .filled) shelf) shelf (played (n .order) .shelves shelf) (play before)
+          (ap (λ state. state .shelves shelf) (sym (play-finished freshState (n .order))) ∙ ap (λ l. playFrom freshState (map deedOf l) .shelves shelf) is ∙ kept-since before after shelf none-filled)
+          (good .shelved .tied shelf) word inside;
+      filled-heard = λ shelf. good .shelved .heard shelf ∙ sym (filled-finished shelf (n .order));
       counts-add-up = ordered .counts;
       held-marked = λ team word held. held-mark shared n good team word held;
       plain-sound = ordered .sound;

@@ -123,7 +123,7 @@ module _ (edit : Edit) (heard : Noted) (turn : Turn (asking (anEdit edit) heard)
           not-found = heard-claiming .undecided .1;
           swapped = omega (arith, heard-claiming .swapped);
         })
-        (grown turn (decided granted edit) (granted-ordered (n .order) (good .ordered) edit (known .rest .fine) succeeded)) (good .ends) (good .tries)
+        (grown turn (decided granted edit) refl (granted-ordered (n .order) (good .ordered) edit (known .rest .fine) succeeded)) (good .ends) (good .tries)
 
     -- Found: it is decided as stale.
     step-finds : (plain (targetAt ticket (ticket .claimed) .word) ≡ targetAt ticket (ticket .claimed) .quoted → ⊥)
@@ -148,7 +148,7 @@ module _ (edit : Edit) (heard : Noted) (turn : Turn (asking (anEdit edit) heard)
           found = refl;
           differed = record { named = names .named; differs = names .differs };
         })
-        (grown turn (decided stale edit) (stale-ordered (n .order) (good .ordered) edit (known .rest .fine) failed)) (good .ends) (good .tries)
+        (grown turn (decided stale edit) refl (stale-ordered (n .order) (good .ordered) edit (known .rest .fine) failed)) (good .ends) (good .tries)
 
     -- Stale with no Found: it is decided as stale, and gone.
     step-fails : ticket .claimed ≡ 0
@@ -164,7 +164,7 @@ module _ (edit : Edit) (heard : Noted) (turn : Turn (asking (anEdit edit) heard)
         ends-as turn (n .order ++ (decided stale edit ∷ [])) (endedBy (withDecision stale (n .order) edited) last)
         (still turn (play-stale (n .order) (good .ordered) edit (known .rest .fine) failed) left)
         (ap (λ found. hearStale n team edited (anEdit edit) found last) (heard-claiming .undecided .1))
-        (order-grows (n .order) (decided stale edit) (stale-ordered (n .order) (good .ordered) edit (known .rest .fine) failed) tt)
+        (order-grows (n .order) (decided stale edit) refl (stale-ordered (n .order) (good .ordered) edit (known .rest .fine) failed) tt)
         record {
           decision = record { verdict = stale; before = n .order };
           once = ap (λ decisions. record { verdict = stale; before = n .order } ∷ decisions) (heard-claiming .undecided .0);

@@ -13,13 +13,13 @@ use Rattle.frames.specs.Writing.{requestFrame}
 use Rattle.plain.specs.Plain.{Plain, NumberedLeg, findBelow, wordOf, legsBelow}
 use Rattle.plain.specs.Editing.{succeeds, perform, attempt}
 use Rattle.calls.specs.Run.{Call, framed, Heard, answerHeard, runFrom}
-use Rattle.calls.specs.Order.{finished, notesFrom, holds}
-use Rattle.calls.specs.Linearizable.{playFrom, grantedOf, heardOn}
+use Rattle.calls.specs.Order.{finished, wasFilled, notedBelow, notesFrom, holds}
+use Rattle.calls.specs.Linearizable.{playFrom, grantedOf, hasBack, untilBack, sinceBack, heardOn}
 use Rattle.calls.specs.Bench.{stations}
 use Rattle.calls.proofs.Computing.{everything}
 
 unfoldable pub everyRun : Unit {0}
-unfolding everything numbers64 answerIn findBelow wordOf legsBelow succeeds perform attempt answerHeard runFrom finished notesFrom holds playFrom grantedOf
+unfolding everything numbers64 answerIn findBelow wordOf legsBelow succeeds perform attempt answerHeard runFrom finished wasFilled notedBelow notesFrom holds playFrom grantedOf hasBack untilBack sinceBack
 everyRun = tt
 
 -- A call for each request, with an output of 52 bytes.
@@ -32,7 +32,7 @@ steps many team = replicate many (Step team)
 
 -- The answers that were heard.
 abbrev pub answers : List Call → List (Option Answer)
-answers list = map answerHeard (heardOn list)
+answers list = map answerHeard (heardOn [] list)
 
 -- An answer to a request, heard.
 abbrev pub heardAs : Request → Answer → Heard

@@ -128,8 +128,8 @@ module _ (shared : Shared) (n : Notes) (table : TableFits (shared .tickets)) (go
 
 pub waiting-names-the-holder : WaitingNamesTheHolder
 unfolding holds
-waiting-names-the-holder calls bytes frame out frame-bytes waiter word team asks heard =
-    let shared = run calls .end in
-    let table = run-table calls in
+waiting-names-the-holder store calls bytes frame out frame-bytes waiter word team asks heard =
+    let shared = run store calls .end in
+    let table = run-table store calls in
     let said = sym (answers-heard shared frame out table) ∙ heard in
-    call-names shared (notesOn (heardOn calls)) table (run-good calls bytes) waiter word team frame out frame-bytes asks cc
+    call-names shared (notesOn (heardOn store calls)) table (run-good store calls bytes) waiter word team frame out frame-bytes asks cc

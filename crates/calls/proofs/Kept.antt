@@ -29,14 +29,16 @@ use Rattle.frames.specs.Numbers.{Bytes, areBytes}
 use Rattle.frames.specs.Requests.{requestIn}
 use Rattle.plain.specs.Plain.{wordOf}
 use Rattle.calls.specs.Call.{refusalOf, Done, requestDone, refusedOr, doneOf}
-use Rattle.calls.specs.Run.{Shared}
+use Rattle.calls.specs.Shelves.{isFilled}
+use Rattle.calls.specs.Run.{Shared, onward}
 use Rattle.calls.specs.Order.{looked, Asked, anEdit, aView, countAsked, Noted, Notes, noteOutOfTurn, atStanding, hearStanding, hearOpened, hearRequest}
-use Rattle.calls.specs.Linearizable.{play}
+use Rattle.calls.specs.Linearizable.{freshState, play}
 use Rattle.calls.specs.Demand1.{TableFits}
+use Rattle.calls.proofs.Orders.{shelves-last, filled-last}
 use Rattle.calls.proofs.Ordered.{Fine, order-stays, place-stays, play-look, look-ordered}
 use Rattle.calls.proofs.Passing.{Passes, passes}
 use Rattle.calls.proofs.Tied.{up-to-none, Known, Tied, known-stands}
-use Rattle.calls.proofs.Turns.{placeIn, Good, asking, goes-on, Turn, Kept}
+use Rattle.calls.proofs.Turns.{placeIn, ShelfTied, Good, asking, goes-on, Turn, Kept}
 use Rattle.calls.proofs.EditSteps.{edit-kept}
 use Rattle.calls.proofs.ViewSteps.{view-kept}
 
@@ -98,13 +100,13 @@ kept-by (aView words) heard turn = view-kept words heard turn
 module _ (shared : Shared) (n : Notes) (table : TableFits (shared .tickets)) (good : Good shared n) where
   -- A ticket is opened for an edit or a view.
   opens : (team : ℕ) → team < teamCount → (asked : Asked) (opened : Ticket) → OpenedTicket (length (shared .book)) opened → Known opened (atStanding asked) → hasTicket (ticketOf (shared .tickets) team .phase) ≡ false
-      → Good record { book = shared .book; tickets = withTicket (shared .tickets) team opened } (hearOpened n team asked (countAsked asked))
+      → Good (onward shared (shared .book) (withTicket (shared .tickets) team opened)) (hearOpened n team asked (countAsked asked))
   opens team inside asked opened apt known empty = by-note (n .tickets team) refl (good .tied team)
     where
       by-note : (note : Option Noted) → n .tickets team ≡ note → Tied (ticketOf (shared .tickets) team) note
-          → Good record { book = shared .book; tickets = withTicket (shared .tickets) team opened } (hearOpened n team asked (countAsked asked))
+          → Good (onward shared (shared .book) (withTicket (shared .tickets) team opened)) (hearOpened n team asked (countAsked asked))
       by-note none is absent =
-          subst (Good record { book = shared .book; tickets = withTicket (shared .tickets) team opened })
+          subst (Good (onward shared (shared .book) (withTicket (shared .tickets) team opened)))
           (sym (ap (λ b. cond b (hearStanding n team (n .tickets team) asked) (noteOutOfTurn n)) (eq-eqb (countAsked asked) (countAsked asked) refl) ∙ ap (λ note. hearStanding n team note asked) is))
           (goes-on shared n table good team inside (shared .book) opened (n .order) (some (atStanding asked)) (n .ended) (good .whole)
           (opening-keeps (shared .book) (ticketOf (shared .tickets)) (wordOf (play (n .order))) team opened (good .agree) empty apt)
@@ -113,7 +115,7 @@ module _ (shared : Shared) (n : Notes) (table : TableFits (shared .tickets)) (go
 
   -- What a request does, and what is heard of it.
   abbrev pub After : Request → Done → Type 0
-  After request done = Good record { book = done .words; tickets = done .tickets } (hearRequest n request (done .answer))
+  After request done = Good (onward shared (done .words) (done .tickets)) (hearRequest n request (done .answer))
 
   step-kept : (team : ℕ) → team < teamCount → hasTicket (ticketOf (shared .tickets) team .phase) ≡ true → After (Step team) (requestDone (shared .book) (shared .tickets) (Step team))
   unfolding requestDone
@@ -135,6 +137,11 @@ module _ (shared : Shared) (n : Notes) (table : TableFits (shared .tickets)) (go
         agree = subst (λ book. Invariant (shared .book) (ticketOf (shared .tickets)) (wordOf book)) (sym (play-look (n .order) (good .ordered) word value)) (good .agree);
         tied = good .tied;
         ordered = look-ordered (n .order) (good .ordered) word value agrees;
+        shelved = record {
+          flags = good .shelved .flags;
+          tied = λ shelf. subst (ShelfTied (shared .store) (isFilled (shared .filled) shelf) shelf) (sym (shelves-last freshState (n .order) (looked word value) refl shelf)) (good .shelved .tied shelf);
+          heard = λ shelf. good .shelved .heard shelf ∙ sym (filled-last shelf (n .order) (looked word value) refl);
+        };
         places = λ team. place-stays team (n .order) (looked word value) (placeIn (n .tickets team)) (good .places team);
         ends = good .ends;
         tries = good .tries;

@@ -23,8 +23,11 @@ pub mod Turns
 pub mod EditSteps
 pub mod ViewSteps
 pub mod Kept
+pub mod Shelving
 pub mod Demand3
 pub mod SurveyDemand3
+pub mod Returning
+pub mod Fillings
 pub mod Holding
 pub mod BenchTable
 pub mod ExampleCalls

@@ -1,6 +1,6 @@
 -- An order of events that is right on the plain book, event by event; and what one more event makes of it.
 use mathlib.Core.Path.{_≡_, refl, sym, ap, subst, _∙_}
-use mathlib.Core.Bool.{true, cond}
+use mathlib.Core.Bool.{true, false, cond}
 use mathlib.Core.List.{List, [], _∷_, _++_, map}
 use mathlib.Core.Logic.{_≢_}
 use mathlib.Core.Option.{Option, none, some}
@@ -15,19 +15,27 @@ use Rattle.edits.specs.Edits.{listedTargets}
 use Rattle.edits.specs.Ranges.{editAllowed, editStationsInRange}
 use Rattle.edits.specs.Opened.{storedTargets}
 use Rattle.edits.proofs.Stored.{some-listed-stored, some-stored-listed}
-use Rattle.plain.specs.Plain.{Plain, freshPlain, wordOf, legsInBook, Sound}
+use Rattle.plain.specs.Plain.{Plain, wordOf, legsInBook, Sound}
 use Rattle.plain.specs.Editing.{succeeds, perform, attempt, addsIn, strikesIn}
 use Rattle.plain.specs.Laws.{SameTargets, EditLawFor}
 use Rattle.plain.proofs.EditLaws.{edits-keep-rules, counts-add-up}
 use Rattle.plain.proofs.AnyOrder.{law-in-any-order}
-use Rattle.calls.specs.Order.{granted, stale, Event, decided, looked, seen, reserved, finished}
-use Rattle.calls.specs.Linearizable.{play, verdictOf, grantedIn, grantedOf}
-use Rattle.calls.proofs.Orders.{play-last, granted-last, RightAt, RightFrom, right-last, play-finished, granted-finished, right-finished, PlaceAt, place-grows, place-new, play-filled, granted-filled, right-filled, places-filled}
+use Rattle.calls.specs.Order.{granted, stale, Event, decided, looked, seen, reserved, filled, cameBack, finished, wasFilled}
+use Rattle.calls.specs.Linearizable.{PlainState, freshState, keptOr, deedOf, playFrom, play, verdictOf, grantedIn, grantedOf, isBack, untilBack, sinceBack}
+use Rattle.calls.proofs.Orders.{play-last, granted-last, RightAt, RightFrom, right-last, play-finished, granted-finished, right-finished, PlaceAt, place-grows, place-new, play-filled, granted-filled, right-filled, places-filled, IsKept, since-last, until-last, since-now, until-now, since-finished, until-finished, since-filled, until-filled, isFilling, shelves-last, filled-last, shelves-filled}
+
+-- The plain book and its shelves after an order.
+abbrev pub played : List Event → PlainState
+played order = playFrom freshState (map deedOf order)
+
+-- The counts are those of the last coming back, or of a fresh book, with what was granted since.
+abbrev pub Counted : List Event → Type 0
+Counted order = legsInBook (play order) + grantedOf strikesIn (sinceBack order) ≡ legsInBook (play (untilBack order)) + grantedOf addsIn (sinceBack order)
 
 pub record Ordered (order : List Event) : Type 0 where
   pub sound : Sound (play order)
-  pub right : RightFrom freshPlain order
-  pub counts : legsInBook (play order) + grantedOf strikesIn order ≡ grantedOf addsIn order
+  pub right : RightFrom freshState order
+  pub counts : Counted order
 
 -- An edit whose ticket was opened: refusals 10 and 11 do not apply, and its stations are station numbers.
 pub record Fine (edit : Edit) : Type 0 where
@@ -44,83 +52,119 @@ same-targets edit = record {
 -- A view's place, if it has one, is reserved in the order, and the plain book there is the one of its last claim.
 abbrev pub PlaceKept : ℕ → List Event → Option (List Event) → Type 0
 PlaceKept team order none = Unit {0}
-PlaceKept team order (some before) = PlaceAt team freshPlain order (length before) (play before)
+PlaceKept team order (some before) = PlaceAt team freshState order (length before) (play before)
 
 -- An order goes on to another by what one team does: it is right, the other teams' places stay, and this is the team's own place now.
 pub record GoesOn (team : ℕ) (before after : List Event) (place : Option (List Event)) : Type 0 where
   pub ordered : Ordered after
-  pub others : (other : ℕ) → other ≢ team → (k : ℕ) (there : Plain) → PlaceAt other freshPlain before k there → PlaceAt other freshPlain after k there
+  pub others : (other : ℕ) → other ≢ team → (k : ℕ) (there : Plain) → PlaceAt other freshState before k there → PlaceAt other freshState after k there
   pub own : PlaceKept team after place
+  pub kept : (shelf : ℕ) → played after .shelves shelf ≡ played before .shelves shelf
+  pub fillings : (shelf : ℕ) → wasFilled shelf after ≡ wasFilled shelf before
 
 -- It stays,
 pub order-stays : {team : ℕ} {order : List Event} {place : Option (List Event)} → Ordered order → PlaceKept team order place → GoesOn team order order place
-order-stays ordered own = record { ordered = ordered; others = λ other differs k there stands. stands; own = own }
+order-stays ordered own = record { ordered = ordered; others = λ other differs k there stands. stands; own = own; kept = λ shelf. refl; fillings = λ shelf. refl }
 
 -- or it grows; a place stays,
 pub place-stays : (team : ℕ) (order : List Event) (event : Event) (place : Option (List Event)) → PlaceKept team order place → PlaceKept team (order ++ (event ∷ [])) place
 place-stays team order event none own = tt
-place-stays team order event (some before) own = place-grows team freshPlain order (length before) (play before) event own
+place-stays team order event (some before) own = place-grows team freshState order (length before) (play before) event own
 
-pub order-grows : {team : ℕ} (order : List Event) (event : Event) {place : Option (List Event)} → Ordered (order ++ (event ∷ [])) → PlaceKept team (order ++ (event ∷ [])) place
+pub order-grows : {team : ℕ} (order : List Event) (event : Event) → isFilling event ≡ false → {place : Option (List Event)} → Ordered (order ++ (event ∷ [])) → PlaceKept team (order ++ (event ∷ [])) place
     → GoesOn team order (order ++ (event ∷ [])) place
-order-grows order event ordered own = record {
+order-grows order event quiet ordered own = record {
   ordered = ordered;
-  others = λ other differs k there stands. place-grows other freshPlain order k there event stands;
+  others = λ other differs k there stands. place-grows other freshState order k there event stands;
   own = own;
+  kept = shelves-last freshState order event quiet;
+  fillings = λ shelf. filled-last shelf order event quiet;
 }
 
 module _ (order : List Event) (so-far : Ordered order) where
   -- Without the places only reserved.
   pub finished-ordered : Ordered (finished order)
   finished-ordered = record {
-    sound = subst Sound (sym (play-finished freshPlain order)) (so-far .sound);
-    right = right-finished freshPlain order (so-far .right);
-    counts = omega (arith, so-far .counts, ap legsInBook (play-finished freshPlain order), granted-finished strikesIn order, granted-finished addsIn order);
+    sound = subst Sound (sym (ap (λ state. state .book) (play-finished freshState order))) (so-far .sound);
+    right = right-finished freshState order (so-far .right);
+    counts =
+        let until = ap (λ l. legsInBook (play l)) (until-finished order) ∙ ap (λ state. legsInBook (state .book)) (play-finished freshState (untilBack order)) in
+        let strikes = ap (grantedOf strikesIn) (since-finished order) ∙ granted-finished strikesIn (sinceBack order) in
+        let adds = ap (grantedOf addsIn) (since-finished order) ∙ granted-finished addsIn (sinceBack order) in
+        omega (arith, so-far .counts, ap (λ state. legsInBook (state .book)) (play-finished freshState order), until, strikes, adds);
   }
 
   -- One more event that leaves the plain book and counts for nothing,
-  event-ordered : (event : Event) → play (order ++ (event ∷ [])) ≡ play order → grantedIn addsIn event ≡ 0 → grantedIn strikesIn event ≡ 0 → RightAt event (play order)
+  event-ordered : (event : Event) → isBack event ≡ false → play (order ++ (event ∷ [])) ≡ play order → grantedIn addsIn event ≡ 0 → grantedIn strikesIn event ≡ 0 → RightAt event (played order)
       → Ordered (order ++ (event ∷ []))
-  event-ordered event stays no-adds no-strikes right = record {
+  event-ordered event no-back stays no-adds no-strikes right = record {
     sound = subst Sound (sym stays) (so-far .sound);
-    right = right-last freshPlain order event (so-far .right) right;
-    counts = omega (arith, so-far .counts, ap legsInBook stays, granted-last strikesIn order event, granted-last addsIn order event);
+    right = right-last freshState order event (so-far .right) right;
+    counts =
+        let strikes = ap (grantedOf strikesIn) (since-last event no-back order) ∙ granted-last strikesIn (sinceBack order) event in
+        let adds = ap (grantedOf addsIn) (since-last event no-back order) ∙ granted-last addsIn (sinceBack order) event in
+        omega (arith, so-far .counts, ap legsInBook stays, ap (λ l. legsInBook (play l)) (until-last event no-back order), strikes, adds);
   }
+
+  -- A shelf filled: the plain book stays,
+  pub play-filling : (shelf : ℕ) → play (order ++ (filled shelf ∷ [])) ≡ play order
+  play-filling shelf = ap (λ state. state .book) (play-last freshState order (filled shelf))
+
+  pub filling-ordered : (shelf : ℕ) → Ordered (order ++ (filled shelf ∷ []))
+  filling-ordered shelf = event-ordered (filled shelf) refl (play-filling shelf) refl refl tt
+
+  -- or come back to: it is what the shelf kept.
+  module _ (shelf : ℕ) (kept : Plain) (is : played order .shelves shelf ≡ some kept) where
+    pub play-back : play (order ++ (cameBack shelf ∷ [])) ≡ kept
+    play-back = ap (λ state. state .book) (play-last freshState order (cameBack shelf)) ∙ ap (keptOr (play order)) is
+
+    pub back-ordered : Sound kept → Ordered (order ++ (cameBack shelf ∷ []))
+    unfolding grantedOf
+    back-ordered sound = record {
+      sound = subst Sound (sym play-back) sound;
+      right = right-last freshState order (cameBack shelf) (so-far .right) (subst IsKept (sym is) tt);
+      counts =
+          let since = since-now (cameBack shelf) refl order in
+          omega (arith, ap (grantedOf strikesIn) since, ap (grantedOf addsIn) since, ap (λ l. legsInBook (play l)) (until-now (cameBack shelf) refl order));
+    }
 
   -- as a look,
   pub play-look : (word value : ℕ) → play (order ++ (looked word value ∷ [])) ≡ play order
-  play-look word value = play-last freshPlain order (looked word value)
+  play-look word value = ap (λ state. state .book) (play-last freshState order (looked word value))
 
   pub look-ordered : (word value : ℕ) → value ≡ wordOf (play order) word → Ordered (order ++ (looked word value ∷ []))
-  look-ordered word value agrees = event-ordered (looked word value) (play-look word value) refl refl agrees
+  look-ordered word value agrees = event-ordered (looked word value) refl (play-look word value) refl refl agrees
 
   -- and a place reserved.
   pub play-reserved : (team : ℕ) → play (order ++ (reserved team ∷ [])) ≡ play order
-  play-reserved team = play-last freshPlain order (reserved team)
+  play-reserved team = ap (λ state. state .book) (play-last freshState order (reserved team))
 
   pub order-reserved : (team : ℕ) → GoesOn team order (order ++ (reserved team ∷ [])) (some order)
-  order-reserved team = order-grows order (reserved team) (event-ordered (reserved team) (play-reserved team) refl refl tt) (place-new team freshPlain order)
+  order-reserved team = order-grows order (reserved team) refl (event-ordered (reserved team) refl (play-reserved team) refl refl tt) (place-new team freshState order)
 
   -- A place filled: it is the team's no more.
-  module _ (team k : ℕ) (words values : List ℕ) (there : Plain) (place : PlaceAt team freshPlain order k there) where
+  module _ (team k : ℕ) (words values : List ℕ) (there : Plain) (place : PlaceAt team freshState order k there) where
     pub play-full : play (set order k (seen words values)) ≡ play order
-    play-full = play-filled team words values freshPlain order k there place
+    play-full = ap (λ state. state .book) (play-filled team words values freshState order k there place)
 
     pub order-filled : values ≡ map (wordOf there) words → GoesOn team order (set order k (seen words values)) none
     order-filled right = record {
       ordered = record {
         sound = subst Sound (sym play-full) (so-far .sound);
-        right = right-filled team words values freshPlain order k there place right (so-far .right);
+        right = right-filled team words values freshState order k there place right (so-far .right);
         counts = omega (
           arith,
           so-far .counts,
           ap legsInBook play-full,
-          granted-filled team words values strikesIn freshPlain order k there place,
-          granted-filled team words values addsIn freshPlain order k there place,
+          ap (λ state. legsInBook (state .book)) (until-filled team words values freshState order k there place),
+          since-filled team words values strikesIn freshState order k there place,
+          since-filled team words values addsIn freshState order k there place,
         );
       };
-      others = λ other differs j here stands. places-filled team words values other differs freshPlain order k j there here place stands;
+      others = λ other differs j here stands. places-filled team words values other differs freshState order k j there here place stands;
       own = tt;
+      kept = λ shelf. ap (λ state. state .shelves shelf) (play-filled team words values freshState order k there place);
+      fillings = λ shelf. shelves-filled team words values shelf freshState order k there place;
     }
 
   module _ (edit : Edit) (fine : Fine edit) where
@@ -132,7 +176,7 @@ module _ (order : List Event) (so-far : Ordered order) where
     module _ (succeeded : succeeds (play order) edit ≡ true) where
       pub play-granted : play (order ++ (decided granted edit ∷ [])) ≡ perform (play order) edit
       unfolding attempt
-      play-granted = play-last freshPlain order (decided granted edit) ∙ ap (λ found. cond found (perform (play order) edit) (play order)) succeeded
+      play-granted = ap (λ state. state .book) (play-last freshState order (decided granted edit)) ∙ ap (λ found. cond found (perform (play order) edit) (play order)) succeeded
 
       pub verdict-granted : granted ≡ verdictOf (play order) edit
       verdict-granted = sym (ap (λ found. cond found granted stale) succeeded)
@@ -140,14 +184,15 @@ module _ (order : List Event) (so-far : Ordered order) where
       pub granted-ordered : Ordered (order ++ (decided granted edit ∷ []))
       granted-ordered = record {
         sound = subst Sound (sym play-granted) (edits-keep-rules (play order) (so-far .sound) edit (fine .allowed) (fine .stations) succeeded);
-        right = right-last freshPlain order (decided granted edit) (so-far .right) verdict-granted;
+        right = right-last freshState order (decided granted edit) (so-far .right) verdict-granted;
         counts = omega (
           arith,
           so-far .counts,
           ap legsInBook play-granted,
+          ap (λ l. legsInBook (play l)) (until-last (decided granted edit) refl order),
           counts-add-up (play order) (so-far .sound) edit (fine .allowed) (fine .stations) succeeded,
-          granted-last strikesIn order (decided granted edit),
-          granted-last addsIn order (decided granted edit),
+          ap (grantedOf strikesIn) (since-last (decided granted edit) refl order) ∙ granted-last strikesIn (sinceBack order) (decided granted edit),
+          ap (grantedOf addsIn) (since-last (decided granted edit) refl order) ∙ granted-last addsIn (sinceBack order) (decided granted edit),
         );
       }
 
@@ -155,10 +200,10 @@ module _ (order : List Event) (so-far : Ordered order) where
     module _ (failed : succeeds (play order) edit ≡ true → ⊥) where
       pub play-stale : play (order ++ (decided stale edit ∷ [])) ≡ play order
       unfolding attempt
-      play-stale = play-last freshPlain order (decided stale edit) ∙ ap (λ found. cond found (perform (play order) edit) (play order)) (is-false _ failed)
+      play-stale = ap (λ state. state .book) (play-last freshState order (decided stale edit)) ∙ ap (λ found. cond found (perform (play order) edit) (play order)) (is-false _ failed)
 
       pub verdict-stale : stale ≡ verdictOf (play order) edit
       verdict-stale = sym (ap (λ found. cond found granted stale) (is-false _ failed))
 
       pub stale-ordered : Ordered (order ++ (decided stale edit ∷ []))
-      stale-ordered = event-ordered (decided stale edit) play-stale refl refl verdict-stale
+      stale-ordered = event-ordered (decided stale edit) refl play-stale refl refl verdict-stale

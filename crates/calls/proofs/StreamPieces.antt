@@ -9,6 +9,7 @@ use borrow.Author.Tests.{lt-ltb, le-ltb}
 use lib.Dec.{ltb}
 use lib.ListN.{length, take, drop, List·getD-append, length-append}
 use lib.Seq.{take-at, drop-at}
+use Rattle.words.specs.Tests.{Every}
 use Rattle.words.specs.Words.{Words, wordsInBook}
 use Rattle.tickets.specs.declared.Tickets.{Tickets}
 use Rattle.frames.specs.Numbers.{Bytes}
@@ -19,11 +20,10 @@ use Rattle.calls.specs.declared.Stop.{Stop}
 use Rattle.calls.specs.declared.Stop.the-variants.{MoreInput, OutputFull, BadLength, NoBook}
 use Rattle.calls.specs.declared.Streamed.{Streamed}
 use Rattle.calls.specs.Way.{wayOf}
-use Rattle.calls.specs.Run.{Shared, heardOf, leftBy, runFrom}
-use Rattle.calls.specs.Linearizable.{Every}
+use Rattle.calls.specs.Run.{Shared, heardOf, leftBy, runFrom, sharing}
 use Rattle.frames.specs.Fields.{longestFrame}
 use Rattle.calls.specs.Survey.{longestField, joined, allWritten, callOn, callsOn, writtenBytes}
-use Rattle.calls.specs.Stream.{WholeFrame, StartsWhole, StopRight, sharing, runOn, StreamRight, Roomy, RoomSuffices, bytesOf, streamOf, PiecesSuffice}
+use Rattle.calls.specs.Stream.{WholeFrame, StartsWhole, StopRight, runOn, StreamRight, Roomy, RoomSuffices, bytesOf, streamOf, PiecesSuffice}
 use Rattle.calls.proofs.StreamRun.{answerOf, leftOf, way-length, run-left, run-wrote, stream-is-run}
 
 -- Frames one after another: their bytes, that all are whole, and their run.

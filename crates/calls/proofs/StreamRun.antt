@@ -10,6 +10,7 @@ use mathlib.Core.List.{List, [], _∷_, _++_, append-assoc, append-nil}
 use lib.ListN.{length, take, drop, getD, replicate, length-append, length-take, length-drop, length-replicate, take-append-drop, drop-of-length-le}
 use lib.Seq.{take-append-seam, drop-append-seam, getD-append-add, take-length, drop-length, length-take-le, drop-drop, drop-at, getD-take}
 use lib.Dec.{lit≤}
+use Rattle.words.specs.Tests.{Every}
 use Rattle.words.specs.Words.{Words, wordsInBook}
 use Rattle.tickets.specs.declared.Tickets.{Tickets}
 use Rattle.tickets.specs.Tickets.{ticketOf}
@@ -27,10 +28,9 @@ use Rattle.calls.specs.declared.Next.the-variants.{Frame, End}
 use Rattle.calls.specs.declared.Streamed.{Streamed}
 use Rattle.calls.specs.Call.{refusalOf, requestDone, refusedOr, doneOf, callOf}
 use Rattle.calls.specs.Way.{wayOf}
-use Rattle.calls.specs.Run.{Shared, leftBy, heardOf, runFrom}
-use Rattle.calls.specs.Linearizable.{Every}
+use Rattle.calls.specs.Run.{Shared, leftBy, heardOf, runFrom, sharing}
 use Rattle.calls.specs.Survey.{longestField, joined, allWritten, callOn, callsOn, writtenBytes}
-use Rattle.calls.specs.Stream.{nextAt, roomIn, withRoom, streamed, streamFrom, WholeFrame, StopRight, sharing, runOn, StreamRight, StreamIsRun}
+use Rattle.calls.specs.Stream.{nextAt, roomIn, withRoom, streamed, streamFrom, WholeFrame, StopRight, runOn, StreamRight, StreamIsRun}
 use Rattle.calls.proofs.Way.{way-is-call}
 use Rattle.calls.proofs.Sending.{wayOut, call-way}
 use Rattle.calls.proofs.Streaming.{next-short, next-bad, next-torn, next-whole, stops, full, goes, after, stream-whole}

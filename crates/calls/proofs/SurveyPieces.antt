@@ -10,7 +10,7 @@ use borrow.Author.Tests.{le-ltb, ltb-false}
 use lib.Dec.{ltb}
 use lib.ListN.{length, List·getD-append, length-append, length-replicate}
 use lib.Seq.{length-take-le, getD-take}
-use Rattle.words.specs.Tests.{someHolds}
+use Rattle.words.specs.Tests.{someHolds, Every}
 use Rattle.words.specs.Words.{wordsInBook}
 use Rattle.frames.specs.declared.Answer.the-variants.{Refused}
 use Rattle.frames.specs.Numbers.{Bytes}
@@ -19,8 +19,7 @@ use Rattle.frames.specs.Answers.{answerFrame, longestAnswer}
 use Rattle.frames.specs.Fields.{longestFrame}
 use Rattle.calls.specs.declared.Stop.{Stop}
 use Rattle.calls.specs.declared.Stop.the-variants.{MoreInput, OutputFull, BadLength, NoBook}
-use Rattle.calls.specs.Run.{Shared, fresh, runFrom}
-use Rattle.calls.specs.Linearizable.{Every}
+use Rattle.calls.specs.Run.{Shared, fresh, runFrom, sharing}
 use Rattle.calls.specs.Survey.{longestField, torn, firstFrame, afterFirstFrame, surveyOf, framesFrom, framesIn, joined, allWritten, restOf, atEnd}
 use Rattle.calls.specs.Stream.{WholeFrame, StartsWhole, StopRight, runOn, Roomy}
 use Rattle.calls.specs.Pieces.{goesOn, Between, beginning, inputOf, turnOf, afterTurn, piecesFrom, RoomEachTurn, PiecesAreSurvey, PiecesHaveRoom}
@@ -97,20 +96,20 @@ stop-answers BadLength shared over next room ends right =
 stop-answers NoBook shared over next room ends right = absurd right
 
 -- Turn after turn.
-in-pieces : (pieces : List Bytes) (before : Between) → length (before .shared .book) ≡ wordsInBook → (StartsWhole (before .kept) → ⊥) → RoomEachTurn before pieces
-    → AnsweredBy (before .shared) (before .kept ++ joined pieces) (piecesFrom before pieces)
+in-pieces : (pieces : List Bytes) (before : Between) → length (before .book) ≡ wordsInBook → (StartsWhole (before .kept) → ⊥) → RoomEachTurn before pieces
+    → AnsweredBy (sharing (before .book) (before .tickets)) (before .kept ++ joined pieces) (piecesFrom before pieces)
 unfolding piecesFrom RoomEachTurn
 in-pieces [] before whole none-starts roomy =
-    subst (λ (input : Bytes). AnsweredBy (before .shared) input (atEnd (before .kept))) (sym (append-nil (before .kept))) (only-rest (before .shared) (before .kept) none-starts)
+    subst (λ (input : Bytes). AnsweredBy (sharing (before .book) (before .tickets)) input (atEnd (before .kept))) (sym (append-nil (before .kept))) (only-rest (sharing (before .book) (before .tickets)) (before .kept) none-starts)
 in-pieces (piece ∷ later) before whole none-starts roomy =
-    let words = before .shared .book in
-    let tickets = before .shared .tickets in
+    let words = before .book in
+    let tickets = before .tickets in
     let input = inputOf before piece in
     let turn = turnOf before piece in
     let after = afterTurn before piece in
     let right = stream-is-run words tickets input (before .out) whole in
     let over = after .kept in
-    let end = runOn (before .shared) (right .frames) .end in
+    let end = runOn (sharing (before .book) (before .tickets)) (right .frames) .end in
     let parts : joined (right .frames) ++ (over ++ joined later) ≡ before .kept ++ (piece ++ joined later) =
     sym (append-assoc (joined (right .frames)) over (joined later))
     ∙ ap (λ (bytes : Bytes). bytes ++ joined later) (right .parts)
@@ -120,9 +119,9 @@ in-pieces (piece ∷ later) before whole none-starts roomy =
     (in-pieces later after (left-length words tickets input (before .out) whole) (rest-none words tickets input (before .out) whole (roomy .0)) (roomy .1 on)) in
     let stops : goesOn (turn .0 .stop) ≡ false → AnsweredBy end (over ++ joined later) (answerFrame (Refused 3)) =
     λ ends. stop-answers (turn .0 .stop) end over (joined later) _ ends (right .stop-right) in
-    subst (λ (bytes : Bytes). AnsweredBy (before .shared) (before .kept ++ (piece ++ joined later)) (bytes ++ cond (goesOn (turn .0 .stop)) (piecesFrom after later) (answerFrame (Refused 3))))
+    subst (λ (bytes : Bytes). AnsweredBy (sharing (before .book) (before .tickets)) (before .kept ++ (piece ++ joined later)) (bytes ++ cond (goesOn (turn .0 .stop)) (piecesFrom after later) (answerFrame (Refused 3))))
     (sym (wrote words tickets input (before .out) whole))
-    (frames-first (before .shared) (right .frames) (over ++ joined later) _ _ (right .all-whole) parts (either (goesOn (turn .0 .stop)) end (over ++ joined later) (piecesFrom after later) goes stops))
+    (frames-first (sharing (before .book) (before .tickets)) (right .frames) (over ++ joined later) _ _ (right .all-whole) parts (either (goesOn (turn .0 .stop)) end (over ++ joined later) (piecesFrom after later) goes stops))
   where
     either : (on : Bool) (shared : Shared) (input bytes : Bytes) → (on ≡ true → AnsweredBy shared input bytes) → (on ≡ false → AnsweredBy shared input (answerFrame (Refused 3)))
         → AnsweredBy shared input (cond on bytes (answerFrame (Refused 3)))
@@ -156,7 +155,7 @@ frames-whole (suc most) (byte ∷ bytes) =
     whole-turn (torn input) (firstFrame input) (framesFrom most (afterFirstFrame input)) (first-whole input) (frames-whole most (afterFirstFrame input))
 
 -- So survey answers its input.
-survey-answers : (input : Bytes) → AnsweredBy fresh input (surveyOf input)
+survey-answers : (input : Bytes) → AnsweredBy (fresh []) input (surveyOf input)
 survey-answers input =
     let right = survey-is-run input in
     record {
@@ -170,7 +169,7 @@ survey-answers input =
 
 pub pieces-are-survey : PiecesAreSurvey
 pieces-are-survey out pieces roomy =
-    one-answer fresh (joined pieces) (piecesFrom (beginning out) pieces) (surveyOf (joined pieces))
+    one-answer (fresh []) (joined pieces) (piecesFrom (beginning out) pieces) (surveyOf (joined pieces))
     (in-pieces pieces (beginning out) (length-replicate {A = ℕ} wordsInBook 0) (λ starts. omega (arith, starts .0)) roomy)
     (survey-answers (joined pieces))
 
@@ -179,13 +178,13 @@ kept-short : (stop : Stop) (left : ℕ) → (stop ≡ BadLength) ⊎ ((stop ≡ 
 kept-short stop left (inl bad) on = absurd (false≢true (sym (ap goesOn bad) ∙ on))
 kept-short stop left (inr more) on = more .1
 
-room-each : (pieces : List Bytes) (before : Between) (room : ℕ) → length (before .shared .book) ≡ wordsInBook → length (before .kept) < longestFrame → length (before .out) ≡ room
+room-each : (pieces : List Bytes) (before : Between) (room : ℕ) → length (before .book) ≡ wordsInBook → length (before .kept) < longestFrame → length (before .out) ≡ room
     → Every (λ piece. longestAnswer * (longestFrame + length piece) ≤ 2 * room) pieces → RoomEachTurn before pieces
 unfolding RoomEachTurn
 room-each [] before room whole short long enough = tt
 room-each (piece ∷ later) before room whole short long enough =
-    let words = before .shared .book in
-    let tickets = before .shared .tickets in
+    let words = before .book in
+    let tickets = before .tickets in
     let input = inputOf before piece in
     let roomy : Roomy input (before .out) = omega (arith, enough .0, short, long, length-append (before .kept) piece) in
     let stopped = room-suffices words tickets input (before .out) whole roomy in

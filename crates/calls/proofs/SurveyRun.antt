@@ -94,5 +94,5 @@ survey-is-run input = record {
   parts = ap (λ (rest : Bytes). joined (framesIn input) ++ rest) (rest-is input) ∙ parts-from (length input) input;
   rest-torn = λ some-left. subst (λ (rest : Bytes). torn rest ≡ true) (sym (rest-is input))
       (torn-from (length input) input (omega arith) (λ none-left. some-left (rest-is input ∙ none-left)));
-  answers = answers-from (length input) fresh input (omega arith) ∙ ap (λ (rest : Bytes). allWritten (runFrom fresh (callsOn (framesIn input)) .heard) ++ atEnd rest) (sym (rest-is input));
+  answers = answers-from (length input) (fresh []) input (omega arith) ∙ ap (λ (rest : Bytes). allWritten (runFrom (fresh []) (callsOn (framesIn input)) .heard) ++ atEnd rest) (sym (rest-is input));
 }

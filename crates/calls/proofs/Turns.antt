@@ -1,6 +1,6 @@
 -- The invariant of a run, and what a step of a team's ticket, of an edit or of a view, makes of it.
 use mathlib.Core.Path.{_≡_, refl, sym, ap, subst, _∙_}
-use mathlib.Core.Bool.{true, cond}
+use mathlib.Core.Bool.{Bool, true, false, cond}
 use mathlib.Core.List.{List, [], _∷_, _++_, map}
 use mathlib.Core.Logic.{_≢_}
 use mathlib.Core.Option.{Option, none, some}
@@ -9,7 +9,8 @@ use native.Mathlib.Omega.{arith}
 use native.Mathlib.Decide.{ℕ-discrete}
 use lib.ListN.{length}
 use borrow.Author.Tests.{eq-eqb, ne-eqb}
-use Rattle.words.specs.Words.{Words, wordsInBook, teamCount}
+use Rattle.words.specs.Tests.{Every}
+use Rattle.words.specs.Words.{Words, wordsInBook, shelfCount, wordsInStore, teamCount, readOf}
 use Rattle.tickets.specs.declared.Phase.{Phase}
 use Rattle.tickets.specs.declared.Ticket.{Ticket}
 use Rattle.tickets.specs.declared.Stepped.{Stepped}
@@ -24,19 +25,37 @@ use Rattle.tickets.proofs.Stepping.{length-kept}
 use Rattle.tickets.proofs.Tries.{tries-stop}
 use Rattle.frames.specs.Request.{Step}
 use Rattle.frames.specs.declared.Answer.the-variants as Answer
-use Rattle.plain.specs.Plain.{Plain, wordOf}
-use Rattle.calls.specs.Run.{Shared}
-use Rattle.calls.specs.Order.{Event, Asked, countAsked, Noted, Ended, Notes, notes, retold, noteTicket, withClaimed, withStep, hearAllClaimed, hearClaimed, hearStepAnswer, hearStep, hearRequest}
-use Rattle.calls.specs.Linearizable.{play, EndedRight, TriesRight, Every}
+use Rattle.plain.specs.Plain.{Plain, wordOf, Sound}
+use Rattle.calls.specs.Shelves.{shelfOf, isFilled}
+use Rattle.calls.specs.Run.{Shared, onward}
+use Rattle.calls.specs.Order.{Event, wasFilled, Asked, countAsked, Noted, Ended, Notes, notes, retold, noteTicket, withClaimed, withStep, hearAllClaimed, hearClaimed, hearStepAnswer, hearStep, hearRequest}
+use Rattle.calls.specs.Linearizable.{play, EndedRight, TriesRight}
 use Rattle.calls.specs.Demand1.{TableFits}
-use Rattle.calls.proofs.Orders.{every-last}
-use Rattle.calls.proofs.Ordered.{Ordered, PlaceKept, GoesOn, order-stays, place-stays, order-grows}
+use Rattle.calls.proofs.Orders.{every-last, isFilling}
+use Rattle.calls.proofs.Ordered.{played, Ordered, PlaceKept, GoesOn, order-stays, place-stays, order-grows}
 use Rattle.calls.proofs.Tied.{UpTo, KnownAs, Known, Tied, known-stands, known-count}
 
 -- The place of a team's ticket, if it is a view that has one.
 abbrev pub placeIn : Option Noted → Option (List Event)
 placeIn none = none
 placeIn (some noted) = noted .place
+
+-- What is known of a shelf by what the plain side keeps of it: not filled; or filled, in the store, with the words of a sound plain book.
+pub record ShelfKept (store : Words) (shelf : ℕ) (kept : Plain) : Type 0 where
+  pub long : length store ≡ wordsInStore
+  pub inside : shelf < shelfCount
+  pub sound : Sound kept
+  pub words : (word : ℕ) → word < wordsInBook → readOf (shelfOf store shelf) word ≡ wordOf kept word
+
+abbrev pub ShelfTied : Words → Bool → ℕ → Option Plain → Type 0
+ShelfTied store filled shelf none = filled ≡ false
+ShelfTied store filled shelf (some kept) = (filled ≡ true) × ShelfKept store shelf kept
+
+-- Of all shelves, by an order.
+pub record Shelved (shared : Shared) (order : List Event) : Type 0 where
+  pub flags : length (shared .filled) ≡ shelfCount
+  pub tied : (shelf : ℕ) → ShelfTied (shared .store) (isFilled (shared .filled) shelf) shelf (played order .shelves shelf)
+  pub heard : (shelf : ℕ) → isFilled (shared .filled) shelf ≡ wasFilled shelf order
 
 -- At all times: the book is whole; words, tickets and the plain book of the order agree; what was heard is tied to the tickets; the order is
 -- right; the places reserved in it are those of views; and the tickets that ended are as they should be.
@@ -45,6 +64,7 @@ pub record Good (shared : Shared) (n : Notes) : Type 0 where
   pub agree : Invariant (shared .book) (ticketOf (shared .tickets)) (wordOf (play (n .order)))
   pub tied : (team : ℕ) → Tied (ticketOf (shared .tickets) team) (n .tickets team)
   pub ordered : Ordered (n .order)
+  pub shelved : Shelved shared (n .order)
   pub places : (team : ℕ) → PlaceKept team (n .order) (placeIn (n .tickets team))
   pub ends : Every EndedRight (n .ended)
   pub tries : Every TriesRight (n .ended)
@@ -76,26 +96,31 @@ module _ (shared : Shared) (n : Notes) (table : TableFits (shared .tickets)) (go
   ]
 
   replaced : (order : List Event) (note : Option Noted) → GoesOn team (n .order) order (placeIn note) → (other : ℕ) → PlaceKept other order (placeIn (retold (n .tickets) team note other))
-  replaced order note onward other = elim (ℕ-discrete other team) [
-    | yes same ↦ rw (eq-eqb other team same) (subst (λ team. PlaceKept team order (placeIn note)) (sym same) (onward .own))
+  replaced order note goes other = elim (ℕ-discrete other team) [
+    | yes same ↦ rw (eq-eqb other team same) (subst (λ team. PlaceKept team order (placeIn note)) (sym same) (goes .own))
     | no differs ↦ rw (ne-eqb other team differs) (stays differs (placeIn (n .tickets other)) (good .places other))
   ]
     where
       stays : other ≢ team → (place : Option (List Event)) → PlaceKept other (n .order) place → PlaceKept other order place
       stays differs none kept = tt
-      stays differs (some before) kept = onward .others other differs (length before) (play before) kept
+      stays differs (some before) kept = goes .others other differs (length before) (play before) kept
 
   pub goes-on : (book : Words) (ticket : Ticket) (order : List Event) (note : Option Noted) (ended : List Ended)
       → length book ≡ wordsInBook
       → Invariant book (withSlot (ticketOf (shared .tickets)) team ticket) (wordOf (play order))
       → Tied ticket note → GoesOn team (n .order) order (placeIn note) → Every EndedRight ended → Every TriesRight ended
-      → Good record { book = book; tickets = withTicket (shared .tickets) team ticket } (notes order (retold (n .tickets) team note) ended (n .outOfTurn))
-  goes-on book ticket order note ended whole agree mine onward ends tries = record {
+      → Good (onward shared book (withTicket (shared .tickets) team ticket)) (notes order (retold (n .tickets) team note) ended (n .outOfTurn))
+  goes-on book ticket order note ended whole agree mine goes ends tries = record {
     whole = whole;
     agree = subst (λ tickets. Invariant book tickets (wordOf (play order))) (sym (slots ticket)) agree;
     tied = λ other. subst (λ tickets. Tied (tickets other) (retold (n .tickets) team note other)) (sym (slots ticket)) (retied ticket note mine other);
-    ordered = onward .ordered;
-    places = replaced order note onward;
+    ordered = goes .ordered;
+    shelved = record {
+      flags = good .shelved .flags;
+      tied = λ shelf. subst (ShelfTied (shared .store) (isFilled (shared .filled) shelf) shelf) (sym (goes .kept shelf)) (good .shelved .tied shelf);
+      heard = λ shelf. good .shelved .heard shelf ∙ sym (goes .fillings shelf);
+    };
+    places = replaced order note goes;
     ends = ends;
     tries = tries;
     in-turn = good .in-turn;
@@ -137,7 +162,7 @@ module _ {noted : Noted} (turn : Turn noted) where
 
   -- The step leaves a ticket and an answer, and the book that it leaves.
   abbrev pub Left : Stepped → Type 0
-  Left step = Good record { book = stepOf (shared .book) ticket team .1; tickets = withTicket (shared .tickets) team (step .ticket) } (hearRequest n (Step team) (Answer.Step (step .answer)))
+  Left step = Good (onward shared (stepOf (shared .book) ticket team .1) (withTicket (shared .tickets) team (step .ticket))) (hearRequest n (Step team) (Answer.Step (step .answer)))
 
   -- What the law of the step gives, and what is to be shown.
   abbrev pub Leaving : (ℕ → ℕ) → Ticket → StepAnswer → Type 0
@@ -159,11 +184,11 @@ module _ {noted : Noted} (turn : Turn noted) where
       → hearStepAnswer n team now answer ≡ notes order (retold (n .tickets) team note) ended (n .outOfTurn)
       → Tied after note → GoesOn team (n .order) order (placeIn note) → Every EndedRight ended → Every TriesRight ended
       → Kept
-  left-as {after} {answer} order note ended left heard mine onward ends tries =
+  left-as {after} {answer} order note ended left heard mine goes ends tries =
       subst Left (sym (left .is))
-      (subst (Good record { book = stepOf (shared .book) ticket team .1; tickets = withTicket (shared .tickets) team after })
+      (subst (Good (onward shared (stepOf (shared .book) ticket team .1) (withTicket (shared .tickets) team after)))
       (sym (ap (λ note. hearStep n team note answer) (turn .is) ∙ heard))
-      (goes-on shared n (turn .table) good team (turn .inside) (stepOf (shared .book) ticket team .1) after order note ended (length-kept (shared .book) ticket team ∙ good .whole) (left .keeps) mine onward ends tries))
+      (goes-on shared n (turn .table) good team (turn .inside) (stepOf (shared .book) ticket team .1) after order note ended (length-kept (shared .book) ticket team ∙ good .whole) (left .keeps) mine goes ends tries))
 
   -- The ticket is fit.
   pub fit : FitTicket (length (shared .book)) ticket
@@ -181,8 +206,8 @@ module _ {noted : Noted} (turn : Turn noted) where
   pub my-place : PlaceKept team (n .order) (noted .place)
   my-place = subst (λ note. PlaceKept team (n .order) (placeIn note)) (turn .is) (good .places team)
 
-  pub grown : (event : Event) → Ordered (n .order ++ (event ∷ [])) → GoesOn team (n .order) (n .order ++ (event ∷ [])) (noted .place)
-  grown event ordered = order-grows (n .order) event ordered (place-stays team (n .order) event (noted .place) my-place)
+  pub grown : (event : Event) → isFilling event ≡ false → Ordered (n .order ++ (event ∷ [])) → GoesOn team (n .order) (n .order ++ (event ∷ [])) (noted .place)
+  grown event quiet ordered = order-grows (n .order) event quiet ordered (place-stays team (n .order) event (noted .place) my-place)
 
   -- The order stays, and the ticket goes on;
   pub stays-as : {after : Ticket} {answer : StepAnswer} (next : Noted) → Leaving plain after answer → hearStepAnswer n team now answer ≡ noteTicket n team next

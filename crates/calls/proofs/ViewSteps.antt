@@ -19,9 +19,9 @@ use Rattle.tickets.proofs.Names.{words-noting, names-noting}
 use Rattle.tickets.proofs.Keeping.{viewed-counts}
 use Rattle.tickets.proofs.Seeing.{values-named}
 use Rattle.frames.specs.Answers.{valuesShown}
-use Rattle.plain.specs.Plain.{freshPlain, wordOf}
+use Rattle.plain.specs.Plain.{wordOf}
 use Rattle.calls.specs.Order.{Event, seen, reserved, aView, Noted, wasSeen, Notes, withClaimed, withReleased, withWait, withStep, withPlace, endedBy, hearSeen, hearPlace}
-use Rattle.calls.specs.Linearizable.{play, Undecided}
+use Rattle.calls.specs.Linearizable.{freshState, play, Undecided}
 use Rattle.calls.proofs.Orders.{PlaceAt}
 use Rattle.calls.proofs.Ordered.{PlaceKept, play-reserved, order-reserved, play-full, order-filled}
 use Rattle.calls.proofs.Tied.{UpTo, up-to-more, HeardViewed, ViewIn, Known, known-count}
@@ -149,7 +149,7 @@ module _ (words : List ℕ) (heard : Noted) (turn : Turn (asking (aView words) h
         let values : List ℕ = valuesShown (valuesSeen ticket) in
         let order : List Event = set (n .order) (length before) (seen words values) in
         let shown : values ≡ map (wordOf (play before)) words = view-shows ticket (wordOf (play before)) words (fit turn) (ap isView viewed) (known .rest .names) (heard-viewed .shows) in
-        let place : PlaceAt team freshPlain (n .order) (length before) (play before) = subst (PlaceKept team (n .order)) (heard-viewed .placed) (my-place turn) in
+        let place : PlaceAt team freshState (n .order) (length before) (play before) = subst (PlaceKept team (n .order)) (heard-viewed .placed) (my-place turn) in
         let all = viewed-counts ticket (fit turn) viewed .1 in
         let count = known-count known in
         ends-as turn order (endedBy watched (wasSeen values))

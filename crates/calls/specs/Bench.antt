@@ -4,6 +4,7 @@ use mathlib.Core.Path.{_≡_}
 use mathlib.Core.List.{List, [], _∷_, _++_, map}
 use lib.ListN.{replicate}
 use lib.IntN.{ℤ, pos, negsuc}
+use Rattle.words.specs.Tests.{Every}
 use Rattle.words.specs.Words.{measureWord, lastLeg}
 use Rattle.legs.specs.Positions.{positionOf}
 use Rattle.legs.specs.declared.Stations.{Stations}
@@ -19,7 +20,6 @@ use Rattle.frames.specs.Request.{Request, Open, Step}
 use Rattle.frames.specs.Writing.{requestFrame}
 use Rattle.frames.specs.Answers.{answerFrame}
 use Rattle.calls.specs.Survey.{surveyOf, joined}
-use Rattle.calls.specs.Linearizable.{Every}
 
 -- An example: a figure and what it is; or what survey is asked from a fresh book, and what it answers.
 pub data Example : Type 0 where

@@ -1,7 +1,10 @@
 pub mod Call
+pub mod Outcomes
+pub mod Shelves
 pub mod Run
 pub mod Order
 pub mod Linearizable
+pub mod Returning
 pub mod Holder
 pub mod Demand1
 pub mod Demand2

@@ -5,7 +5,9 @@ use mathlib.Core.List.{List, [], _∷_, _++_, map}
 use mathlib.Core.Bool.{Bool, true, false, cond}
 use mathlib.Core.Option.{Option, none, some}
 use mathlib.Core.Logic.{_⊎_}
+use lib.Dec.{eqb}
 use lib.ListN.{length}
+use Rattle.words.specs.Tests.{Every}
 use Rattle.words.specs.Words.{Words, wordsInBook, readOf, markOf}
 use Rattle.tickets.specs.Tickets.{ticketOf, hasTicket}
 use Rattle.tickets.specs.Steps.{mostTries}
@@ -15,14 +17,18 @@ use Rattle.plain.specs.Plain.{Plain, freshPlain, wordOf, legsInBook, Sound}
 use Rattle.plain.specs.Editing.{succeeds, attempt, addsIn, strikesIn}
 use Rattle.calls.specs.Order.{claimOrder}
 use Rattle.calls.specs.Call.{bookLengthWrong, badlyMade}
-use Rattle.calls.specs.Run.{Call, OfBytes, Heard, Run, run}
-use Rattle.calls.specs.Order.{Verdict, granted, stale, Event, decided, looked, seen, reserved, Asked, anEdit, aView, countAsked, Decision, Noted, Last, wasGranted, wasStale, wasSeen, Ended, order, ended, notesOn, HeldBy}
+use Rattle.calls.specs.Shelves.{shelfOf, isFilled}
+use Rattle.calls.specs.Run.{Call, Admitted, Heard, Run, run}
+use Rattle.calls.specs.Order.{Verdict, granted, stale, Event, decided, looked, seen, reserved, filled, cameBack, wasFilled, Asked, anEdit, aView, countAsked, Decision, Noted, Last, wasGranted, wasStale, wasSeen, Ended, order, ended, notesOn, HeldBy}
 
--- What the plain book is fed: an edit to try, a word to look at, or words to see together. Neither a verdict nor a value that was heard.
+-- What the plain book is fed: an edit to try, a word to look at, words to see together, a shelf to be kept on or to come back to. Neither a verdict nor a
+-- value that was heard.
 pub data Deed : Type 0 where
   try : Edit → Deed
   look : (word : ℕ) → Deed
   see : (words : List ℕ) → Deed
+  keep : (shelf : ℕ) → Deed
+  comeBack : (shelf : ℕ) → Deed
 
 abbrev pub deedOf : Event → Deed
 deedOf (decided verdict edit) = try edit
@@ -30,20 +36,44 @@ deedOf (looked word value) = look word
 deedOf (seen words values) = see words
 -- (A place that is only reserved is none: nothing is seen there.)
 deedOf (reserved team) = see []
+deedOf (filled shelf) = keep shelf
+deedOf (cameBack shelf) = comeBack shelf
 
--- The plain book finds for itself whether an edit succeeds; for a look and a view it stays.
-abbrev pub feed : Plain → Deed → Plain
-feed plain (try edit) = attempt plain edit
-feed plain (look word) = plain
-feed plain (see words) = plain
+-- The plain book, and the plain book that each shelf keeps, if it was filled.
+pub record PlainState : Type 0 where
+  pub book : Plain
+  pub shelves : ℕ → Option Plain
 
-unfoldable pub playFrom : Plain → List Deed → Plain
-playFrom plain [] = plain
-playFrom plain (deed ∷ deeds) = playFrom (feed plain deed) deeds
+abbrev pub plainState : Plain → (ℕ → Option Plain) → PlainState
+plainState book shelves = record { book = book; shelves = shelves }
+
+-- Fresh, and no shelf filled.
+abbrev pub freshState : PlainState
+freshState = plainState freshPlain (λ shelf. none)
+
+abbrev pub withKept : (ℕ → Option Plain) → ℕ → Plain → ℕ → Option Plain
+withKept shelves shelf book other = cond (eqb other shelf) (some book) (shelves other)
+
+-- (To a shelf that was never filled it does not come back.)
+abbrev pub keptOr : Plain → Option Plain → Plain
+keptOr book none = book
+keptOr book (some kept) = kept
+
+-- The plain book finds for itself whether an edit succeeds; for a look and a view it stays; coming back makes it that of the filling.
+abbrev pub feed : PlainState → Deed → PlainState
+feed state (try edit) = plainState (attempt (state .book) edit) (state .shelves)
+feed state (look word) = state
+feed state (see words) = state
+feed state (keep shelf) = plainState (state .book) (withKept (state .shelves) shelf (state .book))
+feed state (comeBack shelf) = plainState (keptOr (state .book) (state .shelves shelf)) (state .shelves)
+
+unfoldable pub playFrom : PlainState → List Deed → PlainState
+playFrom state [] = state
+playFrom state (deed ∷ deeds) = playFrom (feed state deed) deeds
 
 -- The plain book when all events of an order are done on it, one after another, from a fresh one.
 abbrev pub play : List Event → Plain
-play events = playFrom freshPlain (map deedOf events)
+play events = playFrom freshState (map deedOf events) .book
 
 -- What the plain book finds of an edit.
 abbrev pub verdictOf : Plain → Edit → Verdict
@@ -56,10 +86,34 @@ grantedIn count (decided stale edit) = 0
 grantedIn count (looked word value) = 0
 grantedIn count (seen words values) = 0
 grantedIn count (reserved team) = 0
+grantedIn count (filled shelf) = 0
+grantedIn count (cameBack shelf) = 0
 
 unfoldable pub grantedOf : (Edit → ℕ) → List Event → ℕ
 grantedOf count [] = 0
 grantedOf count (event ∷ events) = grantedIn count event + grantedOf count events
+
+-- Some event is a coming back.
+abbrev pub isBack : Event → Bool
+isBack (decided verdict edit) = false
+isBack (looked word value) = false
+isBack (seen words values) = false
+isBack (reserved team) = false
+isBack (filled shelf) = false
+isBack (cameBack shelf) = true
+
+unfoldable pub hasBack : List Event → Bool
+hasBack [] = false
+hasBack (event ∷ events) = cond (isBack event) true (hasBack events)
+
+-- An order up to its last coming back, that one included, and what came since; where there is none, nothing and all of it.
+unfoldable pub untilBack : List Event → List Event
+untilBack [] = []
+untilBack (event ∷ events) = cond (hasBack (event ∷ events)) (event ∷ untilBack events) []
+
+unfoldable pub sinceBack : List Event → List Event
+sinceBack [] = []
+sinceBack (event ∷ events) = cond (hasBack (event ∷ events)) (sinceBack events) (event ∷ events)
 
 -- A decision is what the plain book finds at that turn.
 abbrev pub DecisionRight : Edit → Decision → Type 0
@@ -149,24 +203,21 @@ StepsOf (wasSeen values) ticket = ticket .steps ≡ 2 * countAsked (ticket .aske
 abbrev pub TriesRight : Ended → Type 0
 TriesRight end = TellsTries (end .last) (min (end .ticket .steps) mostTries) × StepsOf (end .last) (end .ticket)
 
-abbrev pub Every : {A : Type 0} → (A → Type 0) → List A → Type 0
-Every P [] = Unit {0}
-Every P (item ∷ items) = P item × Every P items
-
 -- Of a list of calls: what was heard, the order, the plain book it makes, and the book's words that the calls left.
-abbrev pub heardOn : List Call → List Heard
-heardOn calls = run calls .heard
+abbrev pub heardOn : Words → List Call → List Heard
+heardOn store calls = run store calls .heard
 
-abbrev pub orderOf : List Call → List Event
-orderOf calls = order (heardOn calls)
+abbrev pub orderOf : Words → List Call → List Event
+orderOf store calls = order (heardOn store calls)
 
-abbrev pub plainAfter : List Call → Plain
-plainAfter calls = play (orderOf calls)
+abbrev pub plainAfter : Words → List Call → Plain
+plainAfter store calls = play (orderOf store calls)
 
-abbrev pub bookAfter : List Call → Words
-bookAfter calls = run calls .end .book
+abbrev pub bookAfter : Words → List Call → Words
+bookAfter store calls = run store calls .end .book
 
--- Of a run, what was heard and what it left: the order of what was heard is one of whole edits, looks and views, done one after another on the plain book.
+-- Of a run, what was heard and what it left: the order of what was heard is one of whole edits, looks and views, and of comings back, done one after another on the
+-- plain book.
 pub record Linearizable (result : Run) : Type 0 where
   -- "Exactly the granted tickets succeed there, and exactly the stale ones come out stale."
   pub granted-succeed : (before after : List Event) (verdict : Verdict) (edit : Edit)
@@ -190,8 +241,25 @@ pub record Linearizable (result : Run) : Type 0 where
   pub last-answers : Every EndedRight (ended (result .heard))
   -- (Beyond the papers) A ticket still standing is decided at most once, and Found named the word that differed; a view never is.
   pub decided-once : (team : ℕ) → StandingRight (notesOn (result .heard) .tickets team)
-  -- The counts of all passages sum to granted adds less granted strikes.
-  pub counts-add-up : legsInBook (play (order (result .heard))) + grantedOf strikesIn (order (result .heard)) ≡ grantedOf addsIn (order (result .heard))
+  -- Coming back makes the plain book that of the shelf's last filling, and there was one. (The first is a law of `play` and the second one of `order`, for the reader: they
+  -- hold of whatever was heard. What binds the program are `words-agree` after a coming back, `shelves-agree`, `filled-heard`, and `in-turn`.)
+  pub comes-back : (before between after : List Event) (shelf : ℕ)
+      → order (result .heard) ≡ before ++ (filled shelf ∷ (between ++ (cameBack shelf ∷ after)))
+      → wasFilled shelf between ≡ false
+      → play (before ++ (filled shelf ∷ (between ++ (cameBack shelf ∷ [])))) ≡ play before
+  pub backs-filled : (before after : List Event) (shelf : ℕ) → order (result .heard) ≡ before ++ (cameBack shelf ∷ after) → wasFilled shelf before ≡ true
+  -- A shelf keeps in the store the words of the plain book of its last filling, and is known as filled.
+  pub shelves-agree : (before after : List Event) (shelf word : ℕ)
+      → order (result .heard) ≡ before ++ (filled shelf ∷ after)
+      → wasFilled shelf after ≡ false
+      → word < wordsInBook
+      → readOf (shelfOf (result .end .store) shelf) word ≡ wordOf (play before) word
+  pub filled-heard : (shelf : ℕ) → isFilled (result .end .filled) shelf ≡ wasFilled shelf (order (result .heard))
+  -- "The counts of all passages in the plain book, each the length of its list, sum to granted adds less granted strikes among the decided tickets"; after a coming back
+  -- "the counts sum to the kept book's sum plus the adds granted since, less the strikes granted since".
+  pub counts-add-up :
+      legsInBook (play (order (result .heard))) + grantedOf strikesIn (sinceBack (order (result .heard)))
+      ≡ legsInBook (play (untilBack (order (result .heard)))) + grantedOf addsIn (sinceBack (order (result .heard)))
   -- A word that a ticket holds is its team's mark, so that no word too many is taken for held.
   -- (This field and all that follow go beyond the papers.)
   pub held-marked : (team word : ℕ) → HeldBy (result .heard) team word → readOf (result .end .book) word ≡ markOf team
@@ -209,4 +277,4 @@ pub record Linearizable (result : Run) : Type 0 where
 
 -- Statement: "It is a single claim about the list, not one for each call."
 abbrev pub Demand3 : Type 0
-Demand3 = (calls : List Call) → Every OfBytes calls → Linearizable (run calls)
+Demand3 = (store : Words) (calls : List Call) → Every Admitted calls → Linearizable (run store calls)

@@ -1,12 +1,13 @@
 -- "A ticket's edit is the edit frame that opened it …", and a view is the frame that named its words: the order, the tickets that ended, and what is held, from frames and answers alone.
-use Prim.Native.Nat.{ℕ, _+_}
+use Prim.Native.Nat.{ℕ, zero, suc, _+_}
 use mathlib.Core.Path.{_≡_}
 use mathlib.Core.List.{List, [], _∷_, _++_, map}
 use mathlib.Core.Bool.{Bool, true, false, cond, not}
 use mathlib.Core.Option.{Option, none, some}
-use lib.Dec.{eqb}
+use lib.Dec.{eqb, ltb}
 use lib.ListN.{length, set}
 use Rattle.words.specs.Tests.{allHold, someHolds, occurs}
+use Rattle.words.specs.Words.{teamCount, shelfCount}
 use Rattle.tickets.specs.declared.Values.{Values}
 use Rattle.tickets.specs.declared.StepAnswer.{StepAnswer}
 use Rattle.tickets.specs.declared.StepAnswer.the-variants.{Claimed, Waiting, Found, Put, Returned, Granted, Stale, Seen}
@@ -24,18 +25,21 @@ use Rattle.frames.specs.declared.Answer.the-variants as Answer
 use Rattle.frames.specs.Numbers.{Bytes}
 use Rattle.frames.specs.Requests.{requestIn}
 use Rattle.frames.specs.Answers.{valuesShown}
-use Rattle.calls.specs.Run.{Call, framed, Heard, answerHeard}
+use Rattle.calls.specs.Run.{Call, framed, filling, comingBack, Heard, answerHeard}
 
 pub data Verdict : Type 0 where
   granted stale : Verdict
 
 -- What has a place in the order: a ticket's edit, decided as granted or as stale; a look at a word, with the value it gave; a view that is
--- finished, with the words it named and their values. A view that has claimed all its words reserves its place until it is finished.
+-- finished, with the words it named and their values. A view that has claimed all its words reserves its place until it is finished. A shelf that is
+-- come back to; and, so that it is known to what, a shelf that is filled, which changes nothing and is no place (`FillingsHaveNoPlace`).
 pub data Event : Type 0 where
   decided : Verdict → Edit → Event
   looked : (word value : ℕ) → Event
   seen : (words values : List ℕ) → Event
   reserved : (team : ℕ) → Event
+  filled : (shelf : ℕ) → Event
+  cameBack : (shelf : ℕ) → Event
 
 -- A view that is not finished has no place: one that is only reserved is left out.
 unfoldable pub finished : List Event → List Event
@@ -44,6 +48,18 @@ finished (decided verdict edit ∷ events) = decided verdict edit ∷ finished e
 finished (looked word value ∷ events) = looked word value ∷ finished events
 finished (seen words values ∷ events) = seen words values ∷ finished events
 finished (reserved team ∷ events) = finished events
+finished (filled shelf ∷ events) = filled shelf ∷ finished events
+finished (cameBack shelf ∷ events) = cameBack shelf ∷ finished events
+
+-- A shelf is filled among some events.
+unfoldable pub wasFilled : ℕ → List Event → Bool
+wasFilled shelf [] = false
+wasFilled shelf (decided verdict edit ∷ events) = wasFilled shelf events
+wasFilled shelf (looked word value ∷ events) = wasFilled shelf events
+wasFilled shelf (seen words values ∷ events) = wasFilled shelf events
+wasFilled shelf (reserved team ∷ events) = wasFilled shelf events
+wasFilled shelf (filled other ∷ events) = cond (eqb shelf other) true (wasFilled shelf events)
+wasFilled shelf (cameBack other ∷ events) = wasFilled shelf events
 
 -- What a ticket was opened for: an edit, or a view of these words, as named.
 pub data Asked : Type 0 where
@@ -101,7 +117,8 @@ pub record Ended : Type 0 where
 
 -- What a bystander has written down: the order so far, each team's ticket, the tickets that ended, and how often an answer came out
 -- of turn: a Standing over a ticket still noted or with another number of targets, a step's answer where no ticket is noted or that its
--- ticket can't get, an answer that does not fit its frame, or bytes that are no answer.
+-- ticket can't get, an answer that does not fit its frame, bytes that are no answer, a filling or a coming back that went while a ticket
+-- is noted, or a shelf that there is not or that was never filled.
 pub record Notes : Type 0 where
   pub order : List Event
   pub tickets : ℕ → Option Noted
@@ -263,9 +280,28 @@ abbrev pub hearAnswer : Notes → Bytes → Option Answer → Notes
 hearAnswer n frame none = noteOutOfTurn n
 hearAnswer n frame (some answer) = hearRequest n (requestIn frame) answer
 
--- What was heard of a call.
+-- Some team below n has a ticket noted.
+unfoldable pub notedBelow : ℕ → (ℕ → Option Noted) → Bool
+notedBelow zero tickets = false
+notedBelow (suc n) tickets = elim (tickets n) [ none ↦ notedBelow n tickets | some ticket ↦ true ]
+
+-- A call that goes only while no ticket stands has gone.
+abbrev pub hearAlone : Notes → Notes → Notes
+hearAlone n after = cond (notedBelow teamCount (n .tickets)) (noteOutOfTurn n) after
+
+-- A shelf was filled: one of the three.
+abbrev pub hearFilled : Notes → ℕ → Notes
+hearFilled n shelf = hearAlone n (cond (ltb shelf shelfCount) (noteEvent n (filled shelf)) (noteOutOfTurn n))
+
+-- "Coming back takes its place in the order": to a shelf that was filled.
+abbrev pub hearBack : Notes → ℕ → Notes
+hearBack n shelf = hearAlone n (cond (wasFilled shelf (n .order)) (noteEvent n (cameBack shelf)) (noteOutOfTurn n))
+
+-- What was heard of a call. "Every refusal is passed over."
 abbrev pub hearCall : Notes → Call → Heard → Notes
 hearCall n (framed frame out) one = hearAnswer n frame (answerHeard one)
+hearCall n (filling shelf lent) one = cond (eqb (one .returned) 0) (hearFilled n shelf) n
+hearCall n (comingBack shelf lent) one = cond (eqb (one .returned) 0) (hearBack n shelf) n
 
 unfoldable pub notesFrom : Notes → List Heard → Notes
 notesFrom n [] = n

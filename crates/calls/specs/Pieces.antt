@@ -4,7 +4,9 @@ use mathlib.Core.Path.{_≡_}
 use mathlib.Core.Bool.{Bool, true, false, cond}
 use mathlib.Core.List.{List, [], _∷_, _++_}
 use lib.ListN.{length, drop}
+use Rattle.words.specs.Tests.{Every}
 use Rattle.words.specs.Words.{Words}
+use Rattle.tickets.specs.declared.Tickets.{Tickets}
 use Rattle.frames.specs.declared.Answer.the-variants.{Refused}
 use Rattle.frames.specs.Numbers.{Bytes}
 use Rattle.frames.specs.Answers.{answerFrame, longestAnswer}
@@ -12,10 +14,9 @@ use Rattle.frames.specs.Fields.{longestFrame}
 use Rattle.calls.specs.declared.Stop.{Stop}
 use Rattle.calls.specs.declared.Stop.the-variants.{MoreInput, OutputFull, BadLength, NoBook}
 use Rattle.calls.specs.declared.Streamed.{Streamed}
-use Rattle.calls.specs.Run.{Shared, fresh}
-use Rattle.calls.specs.Linearizable.{Every}
+use Rattle.calls.specs.Run.{fresh}
 use Rattle.calls.specs.Survey.{joined, atEnd, surveyOf}
-use Rattle.calls.specs.Stream.{sharing, streamOf, Roomy, bytesOf}
+use Rattle.calls.specs.Stream.{streamOf, Roomy, bytesOf}
 
 -- It reads on unless a length field is above 62, or there is no book.
 abbrev pub goesOn : Stop → Bool
@@ -26,26 +27,27 @@ goesOn NoBook = false
 
 -- What one turn leaves to the next: the book and the tickets, the bytes that are no whole frame yet, and the output, which is written over.
 pub record Between : Type 0 where
-  pub shared : Shared
+  pub book : Words
+  pub tickets : Tickets
   pub kept : Bytes
   pub out : Bytes
 
 -- Before the first piece: a fresh book, and nothing kept.
 abbrev pub beginning : Bytes → Between
-beginning out = record { shared = fresh; kept = []; out = out }
+beginning out = record { book = fresh [] .book; tickets = fresh [] .tickets; kept = []; out = out }
 
 -- A turn: a piece is put behind what was kept, and all whole frames are answered.
 abbrev pub inputOf : Between → Bytes → Bytes
 inputOf before piece = before .kept ++ piece
 
 abbrev pub turnOf : Between → Bytes → Streamed × Words × Bytes
-turnOf before piece = streamOf (before .shared .book) (before .shared .tickets) (inputOf before piece) (before .out)
+turnOf before piece = streamOf (before .book) (before .tickets) (inputOf before piece) (before .out)
 
 -- What it leaves.
 abbrev pub afterTurn : Between → Bytes → Between
 afterTurn before piece =
     let turn = turnOf before piece in
-    record { shared = sharing (turn .1) (turn .0 .tickets); kept = drop (turn .0 .consumed) (inputOf before piece); out = turn .2 }
+    record { book = turn .1; tickets = turn .0 .tickets; kept = drop (turn .0 .consumed) (inputOf before piece); out = turn .2 }
 
 -- What is written for pieces, one after another: each turn's answers; Refused 3 at a stop, which ends it, and at the end of the pieces where something is kept.
 unfoldable pub piecesFrom : Between → List Bytes → Bytes

@@ -13,23 +13,58 @@ use Rattle.frames.specs.declared.Answer.the-variants.{Refused}
 use Rattle.frames.specs.Numbers.{Bytes, areBytes}
 use Rattle.frames.specs.Reading.{answerIn}
 use Rattle.calls.specs.Call.{isReturned, callOf}
+use Rattle.calls.specs.Outcomes.{numberOf}
+use Rattle.calls.specs.Shelves.{Filled, noneFilled, storeLengthWrong, fillOf, backOf}
 
--- A call: a frame of any bytes, and an output of its own of any length.
+-- The store that a call lends: the one store; or another, "a call that 19 refuses may lend any".
+pub data Lent : Type 0 where
+  theStore : Lent
+  another : (store : Words) → Lent
+
+-- A call: a frame of any bytes, and an output of its own of any length; or a shelf that is filled or come back to.
 pub data Call : Type 0 where
   framed : (frame out : Bytes) → Call
+  filling : (shelf : ℕ) (lent : Lent) → Call
+  comingBack : (shelf : ℕ) (lent : Lent) → Call
 
--- Its frame is bytes. (What stands in the output beforehand does not matter.)
-abbrev pub OfBytes : Call → Type 0
-OfBytes (framed frame out) = areBytes frame ≡ true
+-- Another store is of another length.
+abbrev pub LentRight : Lent → Type 0
+LentRight theStore = Unit {0}
+LentRight (another store) = storeLengthWrong store ≡ true
 
--- What the calls share: the book and the tickets.
+-- What a list may hold: a call's frame is bytes (what stands in the output beforehand does not matter), and it lends the one store throughout.
+abbrev pub Admitted : Call → Type 0
+Admitted (framed frame out) = areBytes frame ≡ true
+Admitted (filling shelf lent) = LentRight lent
+Admitted (comingBack shelf lent) = LentRight lent
+
+-- What the calls share: the book, the tickets, the one store, and which of its shelves are filled.
 pub record Shared : Type 0 where
   pub book : Words
   pub tickets : Tickets
+  pub store : Words
+  pub filled : Filled
 
--- "The first call gets 4,096 zero words and no ticket".
-abbrev pub fresh : Shared
-fresh = record { book = replicate wordsInBook 0; tickets = freshTickets }
+-- "The first call gets 4,096 zero words and no ticket"; no shelf is filled, whatever the store holds.
+abbrev pub fresh : Words → Shared
+fresh store = record { book = replicate wordsInBook 0; tickets = freshTickets; store = store; filled = noneFilled }
+
+-- With another book and other tickets.
+abbrev pub onward : Shared → Words → Tickets → Shared
+onward shared book tickets = record { book = book; tickets = tickets; store = shared .store; filled = shared .filled }
+
+-- What calls share that lend no store, as a stream's do.
+abbrev pub sharing : Words → Tickets → Shared
+sharing words tickets = onward (fresh []) words tickets
+
+-- The store that a call lends, and the one store after it: another one is no part of what the calls share.
+abbrev pub lentBy : Shared → Lent → Words
+lentBy shared theStore = shared .store
+lentBy shared (another store) = store
+
+abbrev pub storeAfter : Shared → Lent → Words → Words
+storeAfter shared theStore left = left
+storeAfter shared (another store) left = shared .store
 
 -- What a bystander hears of a call: the call, the number that it returned, and its output afterwards.
 pub record Heard : Type 0 where
@@ -45,12 +80,24 @@ abbrev pub heardOf : Shared → Call → Heard
 heardOf shared (framed frame out) =
     let result = callOf (shared .book) (shared .tickets) frame out in
     record { call = framed frame out; returned = result .0 .written; output = result .2 }
+heardOf shared (filling shelf lent) =
+    let result = fillOf (shared .book) (shared .tickets) (lentBy shared lent) (shared .filled) shelf in
+    record { call = filling shelf lent; returned = numberOf (result .0); output = [] }
+heardOf shared (comingBack shelf lent) =
+    let result = backOf (shared .book) (shared .tickets) (lentBy shared lent) (shared .filled) shelf in
+    record { call = comingBack shelf lent; returned = numberOf (result .0); output = [] }
 
--- The book and tickets that a call leaves.
+-- What a call leaves. A frame changes no shelf, a filling no word and no ticket, a coming back neither tickets nor shelves.
 abbrev pub leftBy : Shared → Call → Shared
 leftBy shared (framed frame out) =
     let result = callOf (shared .book) (shared .tickets) frame out in
-    record { book = result .1; tickets = result .0 .tickets }
+    onward shared (result .1) (result .0 .tickets)
+leftBy shared (filling shelf lent) =
+    let result = fillOf (shared .book) (shared .tickets) (lentBy shared lent) (shared .filled) shelf in
+    record { book = shared .book; tickets = shared .tickets; store = storeAfter shared lent (result .1); filled = result .2 }
+leftBy shared (comingBack shelf lent) =
+    let result = backOf (shared .book) (shared .tickets) (lentBy shared lent) (shared .filled) shelf in
+    onward shared (result .1) (shared .tickets)
 
 -- "Each later one the book and tickets that the last one left."
 pub record Run : Type 0 where
@@ -63,5 +110,5 @@ runFrom shared (call ∷ calls) =
     let later = runFrom (leftBy shared call) calls in
     record { end = later .end; heard = heardOf shared call ∷ later .heard }
 
-abbrev pub run : List Call → Run
-run calls = runFrom fresh calls
+abbrev pub run : Words → List Call → Run
+run store calls = runFrom (fresh store) calls

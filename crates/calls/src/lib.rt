@@ -10,6 +10,12 @@ pub struct Reply {
     pub tickets: Tickets,
 }
 
+// What a call without a frame comes to: it went, or is refused by a number.
+pub enum Outcome {
+    Done,
+    Refused(u16),
+}
+
 // Where a frame goes: back, refused; to a look; or to a team, with its kind.
 pub enum Aim {
     Refused(u16),

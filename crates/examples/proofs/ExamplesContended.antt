@@ -38,20 +38,20 @@ unfolding everyRun
 other-answers = refl
 
 -- It is decided as stale at Found, and not again at Stale.
-other-order : map (λ many. orderOf (otherCount many)) (1 ∷ 2 ∷ 3 ∷ []) ≡ [] ∷ (decided stale (firstLeg 1 1 thatMeasure) ∷ []) ∷ (decided stale (firstLeg 1 1 thatMeasure) ∷ []) ∷ []
+other-order : map (λ many. orderOf [] (otherCount many)) (1 ∷ 2 ∷ 3 ∷ []) ≡ [] ∷ (decided stale (firstLeg 1 1 thatMeasure) ∷ []) ∷ (decided stale (firstLeg 1 1 thatMeasure) ∷ []) ∷ []
 unfolding everyRun
 other-order = refl
 
-other-plain : play (orderOf (otherCount 3)) ≡ freshPlain
+other-plain : play (orderOf [] (otherCount 3)) ≡ freshPlain
 unfolding everyRun
 other-plain = refl
 
 -- Word 0 is held from Claimed until the last answer, which gives it back.
-other-held : map (λ many. holds (heardOn (otherCount many)) 0 0) (0 ∷ 1 ∷ 2 ∷ 3 ∷ []) ≡ false ∷ true ∷ true ∷ false ∷ []
+other-held : map (λ many. holds (heardOn [] (otherCount many)) 0 0) (0 ∷ 1 ∷ 2 ∷ 3 ∷ []) ≡ false ∷ true ∷ true ∷ false ∷ []
 unfolding everyRun
 other-held = refl
 
-other-ended : endedAs (ended (heardOn (otherCount 3))) ≡ record { last = wasStale 1 3; steps = 3; waits = 0; found = some 1; decisions = 1 } ∷ []
+other-ended : endedAs (ended (heardOn [] (otherCount 3))) ≡ record { last = wasStale 1 3; steps = 3; waits = 0; found = some 1; decisions = 1 } ∷ []
 unfolding everyRun
 other-ended = refl
 
@@ -72,7 +72,7 @@ contended-answers = refl
 abbrev events : List Event
 events = looked 1 0 ∷ decided granted (firstLeg 1 0 thatMeasure) ∷ looked 0 1 ∷ decided stale (firstLeg 2 0 thatMeasure) ∷ []
 
-contended-order : orderOf contended ≡ events
+contended-order : orderOf [] contended ≡ events
 unfolding everyRun
 contended-order = refl
 
@@ -80,13 +80,13 @@ contended-plain : play events ≡ (leg 1 thatMeasure ∷ []) ∷ replicate 31 []
 unfolding everyRun
 contended-plain = refl
 
-contended-ended : endedAs (ended (heardOn contended))
+contended-ended : endedAs (ended (heardOn [] contended))
     ≡ record { last = wasGranted 10; steps = 10; waits = 0; found = none; decisions = 1 }
     ∷ record { last = wasStale 0 2; steps = 2; waits = 1; found = none; decisions = 1 } ∷ []
 unfolding everyRun
 contended-ended = refl
 
-contended-in-turn : notesOn (heardOn contended) .outOfTurn ≡ 0
+contended-in-turn : notesOn (heardOn [] contended) .outOfTurn ≡ 0
 unfolding everyRun
 contended-in-turn = refl
 
@@ -97,12 +97,12 @@ behind = Add record { passage = 0; leg = 2; newest = 1; count = 1; stations = st
 abbrev patient : List Call
 patient = calls (Open 0 (firstLeg 1 0 thatMeasure) ∷ steps 5 0 ++ (Open 1 behind ∷ Step 1 ∷ steps 5 0 ++ steps 10 1))
 
-patient-ended : endedAs (ended (heardOn patient))
+patient-ended : endedAs (ended (heardOn [] patient))
     ≡ record { last = wasGranted 10; steps = 10; waits = 0; found = none; decisions = 1 }
     ∷ record { last = wasGranted 11; steps = 11; waits = 1; found = none; decisions = 1 } ∷ []
 unfolding everyRun
 patient-ended = refl
 
-patient-plain : play (orderOf patient) ≡ (leg 2 thatMeasure ∷ leg 1 thatMeasure ∷ []) ∷ replicate 31 []
+patient-plain : play (orderOf [] patient) ≡ (leg 2 thatMeasure ∷ leg 1 thatMeasure ∷ []) ∷ replicate 31 []
 unfolding everyRun
 patient-plain = refl

@@ -16,7 +16,7 @@ use Rattle.calls.proofs.ExampleCalls.{everyRun, calls, steps}
 abbrev short : List Call
 short = framed addFrame (replicate 51 0) ∷ framed addFrame (replicate 52 0) ∷ framed stepFrame [] ∷ framed stepFrame (replicate 52 0) ∷ framed (4 ∷ []) (replicate 52 0) ∷ []
 
-short-heard : map answerHeard (heardOn short)
+short-heard : map answerHeard (heardOn [] short)
     ≡ map some (Answer.Refused 2 ∷ Answer.Standing 5 ∷ Answer.Refused 2 ∷ Answer.Step (Claimed 1) ∷ Answer.Refused 3 ∷ [])
 unfolding everyRun
 short-heard = refl
@@ -25,6 +25,6 @@ short-heard = refl
 abbrev both : List Request
 both = View 0 2 (70 ∷ 3 ∷ []) ∷ View 1 2 (2 ∷ 71 ∷ []) ∷ steps 2 0 ++ (Look 80 ∷ steps 2 1) ++ (Look 81 ∷ steps 2 1) ++ (Look 82 ∷ steps 2 0)
 
-both-order : orderOf (calls both) ≡ seen (70 ∷ 3 ∷ []) (0 ∷ 0 ∷ []) ∷ looked 80 0 ∷ seen (2 ∷ 71 ∷ []) (0 ∷ 0 ∷ []) ∷ looked 81 0 ∷ looked 82 0 ∷ []
+both-order : orderOf [] (calls both) ≡ seen (70 ∷ 3 ∷ []) (0 ∷ 0 ∷ []) ∷ looked 80 0 ∷ seen (2 ∷ 71 ∷ []) (0 ∷ 0 ∷ []) ∷ looked 81 0 ∷ looked 82 0 ∷ []
 unfolding everyRun
 both-order = refl

@@ -53,7 +53,7 @@ oppositeEvents =
     decided granted (firstLeg 1 0 thatMeasure) ∷ decided granted (adding 1 2 0 0)
     ∷ looked 2 2 ∷ decided granted moveSecond ∷ decided stale moveFirst ∷ looked 2 0 ∷ []
 
-opposite-order : orderOf (calls (setting ++ opposite)) ≡ oppositeEvents
+opposite-order : orderOf [] (calls (setting ++ opposite)) ≡ oppositeEvents
 unfolding everyRun
 opposite-order = refl
 
@@ -72,13 +72,13 @@ unfolding everyRun
 in-use-answers = refl
 
 -- Decided as stale at Found; after Returned 1 words 11 and 64 are still held.
-in-use-order : orderOf (calls (take 16 inUse)) ≡ decided granted (firstLeg 1 0 thatMeasure) ∷ decided stale (adding 5 1 0 0) ∷ []
+in-use-order : orderOf [] (calls (take 16 inUse)) ≡ decided granted (firstLeg 1 0 thatMeasure) ∷ decided stale (adding 5 1 0 0) ∷ []
 unfolding everyRun
 in-use-order = refl
 
 abbrev heldAfterReturned : List Bool
 heldAfterReturned =
-    let heard = heardOn (calls (take 17 inUse)) in
+    let heard = heardOn [] (calls (take 17 inUse)) in
     holds heard 2 10 ∷ holds heard 2 11 ∷ holds heard 2 64 ∷ holds heard 2 65 ∷ []
 
 in-use-held : heldAfterReturned ≡ false ∷ true ∷ true ∷ false ∷ []
@@ -111,7 +111,7 @@ fourEvents =
     ∷ looked 6 2 ∷ looked 7 1 ∷ looked 68 (placeOf 3 stations) ∷ decided granted strikeFirst
     ∷ looked 0 0 ∷ looked 1 0 ∷ looked 65 0 ∷ []
 
-four-order : orderOf (calls four) ≡ fourEvents
+four-order : orderOf [] (calls four) ≡ fourEvents
 unfolding everyRun
 four-order = refl
 
@@ -132,7 +132,7 @@ four-counts = refl
 abbrev firstWords : List ℕ
 firstWords = replicate 6 0 ++ (2 ∷ 1 ∷ replicate 60 0) ++ (placeOf 3 stations ∷ measureOf thatMeasure ∷ [])
 
-four-words : take 70 (bookAfter (calls four)) ≡ firstWords
+four-words : take 70 (bookAfter [] (calls four)) ≡ firstWords
 unfolding everyRun
 four-words = refl
 

@@ -20,7 +20,7 @@ abbrev moving : Edit
 moving = Move (record { passage = 24; into = 25; newer = 0; leg = 1; older = 0; count = 1; «into_newest» = 0; «into_count» = 0; stations = stations })
 
 abbrev heard : List Request → List Heard
-heard requests = heardOn (calls requests)
+heard requests = heardOn [] (calls requests)
 
 -- Which of these words team 0 holds.
 abbrev held : List ℕ → List Request → List Bool

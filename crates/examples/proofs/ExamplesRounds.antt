@@ -34,12 +34,12 @@ two = calls (View 0 1 (0 ∷ []) ∷ View 1 1 (0 ∷ []) ∷ [])
 abbrev rounds : List (List Turn)
 rounds = (turn 0 ∷ turn 1 ∷ []) ∷ (turn 1 ∷ turn 0 ∷ []) ∷ (turn 1 ∷ []) ∷ (turn 1 ∷ []) ∷ []
 
-two-targets : targetsStanding (run two .end .tickets) ≡ 2
+two-targets : targetsStanding (run [] two .end .tickets) ≡ 2
 unfolding everyRun targetsBelow
 two-targets = refl
 
 -- Three rounds are not enough, and four are.
-two-standing : map (λ many. standingBelow teamCount (afterRounds (run two .end) (take many rounds) .tickets)) (0 ∷ 1 ∷ 2 ∷ 3 ∷ 4 ∷ [])
+two-standing : map (λ many. standingBelow teamCount (afterRounds (run [] two .end) (take many rounds) .tickets)) (0 ∷ 1 ∷ 2 ∷ 3 ∷ 4 ∷ [])
     ≡ (1 ∷ 0 ∷ []) ∷ (1 ∷ 0 ∷ []) ∷ (1 ∷ []) ∷ (1 ∷ []) ∷ [] ∷ []
 unfolding everyRun
 two-standing = refl
@@ -51,9 +51,9 @@ other-way true false = refl
 other-way false true = refl
 other-way false false = refl
 
-two-rounds : RoundsFrom (run two .end) rounds
+two-rounds : RoundsFrom (run [] two .end) rounds
 unfolding everyRun turnsBelow
-two-rounds = let end = run two .end in (
+two-rounds = let end = run [] two .end in (
   record {
     standing = (refl, (refl, tt));
     roomy = (omega arith, (omega arith, tt));
@@ -69,9 +69,9 @@ two-rounds = let end = run two .end in (
   ),
 )
 
-two-done : NoneStands (afterRounds (run two .end) rounds .tickets)
+two-done : NoneStands (afterRounds (run [] two .end) rounds .tickets)
 unfolding everyRun targetsBelow areBytes
-two-done = every-ticket-gets-done two (refl, (refl, tt)) rounds two-rounds (omega (arith, two-targets))
+two-done = every-ticket-gets-done [] two (refl, (refl, tt)) rounds two-rounds (omega (arith, two-targets))
 
 -- So many rounds, each of them that of `turnsBelow`.
 abbrev playedOn : ℕ → Shared → Shared
@@ -82,11 +82,11 @@ playedOn (suc many) shared = playedOn many (afterRound shared (turnsBelow teamCo
 abbrev opposite : List Call
 opposite = calls (setting ++ (Open 0 moveFirst ∷ Open 1 moveSecond ∷ []))
 
-opposite-targets : targetsStanding (run opposite .end .tickets) ≡ 12
+opposite-targets : targetsStanding (run [] opposite .end .tickets) ≡ 12
 unfolding everyRun targetsBelow
 opposite-targets = refl
 
-opposite-standing : map (λ many. standingBelow teamCount (playedOn many (run opposite .end) .tickets)) (0 ∷ 6 ∷ 7 ∷ 11 ∷ 12 ∷ [])
+opposite-standing : map (λ many. standingBelow teamCount (playedOn many (run [] opposite .end) .tickets)) (0 ∷ 6 ∷ 7 ∷ 11 ∷ 12 ∷ [])
     ≡ (1 ∷ 0 ∷ []) ∷ (1 ∷ 0 ∷ []) ∷ (1 ∷ []) ∷ (1 ∷ []) ∷ [] ∷ []
 unfolding everyRun turnsBelow
 opposite-standing = refl

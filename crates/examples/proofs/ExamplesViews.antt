@@ -39,7 +39,7 @@ after = measureOf (measured 6000 (pos 20))
 abbrev looks : List Request
 looks = (Open 0 adding ∷ steps 10 0) ++ (Look 65 ∷ Open 0 correcting ∷ steps 4 0) ++ (Look 66 ∷ [])
 
-looks-order : orderOf (calls looks) ≡ decided granted adding ∷ looked 65 place ∷ decided granted correcting ∷ looked 66 after ∷ []
+looks-order : orderOf [] (calls looks) ≡ decided granted adding ∷ looked 65 place ∷ decided granted correcting ∷ looked 66 after ∷ []
 unfolding everyRun
 looks-order = refl
 
@@ -67,12 +67,12 @@ views-answers = refl
 abbrev values : List ℕ
 values = before ∷ place ∷ placeOf 1 stations ∷ []
 
-views-order : orderOf (calls views)
+views-order : orderOf [] (calls views)
     ≡ decided granted adding ∷ decided granted addingSecond ∷ seen (66 ∷ 65 ∷ 68 ∷ []) values ∷ decided granted correcting ∷ looked 66 after ∷ []
 unfolding everyRun
 views-order = refl
 
-unfinished-order : orderOf (calls (take 36 views)) ≡ decided granted adding ∷ decided granted addingSecond ∷ decided granted correcting ∷ looked 66 after ∷ []
+unfinished-order : orderOf [] (calls (take 36 views)) ≡ decided granted adding ∷ decided granted addingSecond ∷ decided granted correcting ∷ looked 66 after ∷ []
 unfolding everyRun
 unfinished-order = refl
 
@@ -82,7 +82,7 @@ unfolding everyRun
 views-plain = refl
 
 -- Word 65 is held from Claimed 1 until Returned 1.
-views-held : map (λ many. holds (heardOn (calls (take many views))) 1 65) (12 ∷ 13 ∷ 29 ∷ 30 ∷ []) ≡ false ∷ true ∷ true ∷ false ∷ []
+views-held : map (λ many. holds (heardOn [] (calls (take many views))) 1 65) (12 ∷ 13 ∷ 29 ∷ 30 ∷ []) ≡ false ∷ true ∷ true ∷ false ∷ []
 unfolding everyRun
 views-held = refl
 
@@ -90,7 +90,7 @@ views-held = refl
 abbrev endings : List Ended → List (Last × ℕ × ℕ × Option (List Event))
 endings ends = map (λ end. (end .last, end .ticket .steps, end .ticket .waits, end .ticket .place)) ends
 
-views-ended : endings (ended (heardOn (calls views)))
+views-ended : endings (ended (heardOn [] (calls views)))
     ≡ (wasGranted 10, 10, 0, none) ∷ (wasGranted 10, 10, 0, none) ∷ (wasGranted 6, 6, 2, none)
     ∷ (wasSeen values, 6, 0, some (decided granted adding ∷ decided granted addingSecond ∷ [])) ∷ []
 unfolding everyRun
@@ -100,16 +100,16 @@ views-ended = refl
 abbrev patient : List Request
 patient = Open 0 (firstLeg 5 0 thatMeasure) ∷ Step 0 ∷ View 1 2 (1 ∷ 0 ∷ []) ∷ Step 1 ∷ steps 9 0 ++ steps 4 1
 
-patient-ended : endings (ended (heardOn (calls patient)))
+patient-ended : endings (ended (heardOn [] (calls patient)))
     ≡ (wasGranted 10, 10, 0, none) ∷ (wasSeen (1 ∷ 5 ∷ []), 5, 1, some (decided granted (firstLeg 5 0 thatMeasure) ∷ [])) ∷ []
 unfolding everyRun
 patient-ended = refl
 
-patient-order : orderOf (calls patient) ≡ decided granted (firstLeg 5 0 thatMeasure) ∷ seen (1 ∷ 0 ∷ []) (1 ∷ 5 ∷ []) ∷ []
+patient-order : orderOf [] (calls patient) ≡ decided granted (firstLeg 5 0 thatMeasure) ∷ seen (1 ∷ 0 ∷ []) (1 ∷ 5 ∷ []) ∷ []
 unfolding everyRun
 patient-order = refl
 
 -- Nothing was out of turn.
-in-turn : notesOn (heardOn (calls views)) .outOfTurn ∷ notesOn (heardOn (calls patient)) .outOfTurn ∷ [] ≡ 0 ∷ 0 ∷ []
+in-turn : notesOn (heardOn [] (calls views)) .outOfTurn ∷ notesOn (heardOn [] (calls patient)) .outOfTurn ∷ [] ≡ 0 ∷ 0 ∷ []
 unfolding everyRun
 in-turn = refl

@@ -24,7 +24,7 @@ add-frame = refl
 abbrev partOfCase : ℕ → List Call
 partOfCase many = framed addFrame (replicate longestAnswer 0) ∷ replicate many (framed stepFrame (replicate longestAnswer 0))
 
-written-10 : allWritten (heardOn (partOfCase 10)) ≡ wholeCaseOutput
+written-10 : allWritten (heardOn [] (partOfCase 10)) ≡ wholeCaseOutput
 unfolding everyRun
 written-10 = refl
 
@@ -32,15 +32,15 @@ abbrev events : List Event
 events = decided granted (firstLeg 1 0 thatMeasure) ∷ []
 
 -- It is decided at the fifth step, and not before.
-order-4 : orderOf (partOfCase 4) ≡ []
+order-4 : orderOf [] (partOfCase 4) ≡ []
 unfolding everyRun
 order-4 = refl
 
-order-5 : orderOf (partOfCase 5) ≡ events
+order-5 : orderOf [] (partOfCase 5) ≡ events
 unfolding everyRun
 order-5 = refl
 
-order-10 : orderOf (partOfCase 10) ≡ events
+order-10 : orderOf [] (partOfCase 10) ≡ events
 unfolding everyRun
 order-10 = refl
 
@@ -49,11 +49,11 @@ abbrev lasts : List Ended → List Last
 lasts [] = []
 lasts (end ∷ ends) = end .last ∷ lasts ends
 
-ended-9 : ended (heardOn (partOfCase 9)) ≡ []
+ended-9 : ended (heardOn [] (partOfCase 9)) ≡ []
 unfolding everyRun
 ended-9 = refl
 
-ended-10 : lasts (ended (heardOn (partOfCase 10))) ≡ wasGranted 10 ∷ []
+ended-10 : lasts (ended (heardOn [] (partOfCase 10))) ≡ wasGranted 10 ∷ []
 unfolding everyRun
 ended-10 = refl
 
@@ -68,7 +68,7 @@ plain-book = refl
 abbrev firstWords : List ℕ
 firstWords = 1 ∷ 1 ∷ replicate 63 0 ++ (8388673 ∷ 76022100792200 ∷ 0 ∷ [])
 
-words-10 : take 68 (bookAfter (partOfCase 10)) ≡ firstWords
+words-10 : take 68 (bookAfter [] (partOfCase 10)) ≡ firstWords
 unfolding everyRun
 words-10 = refl
 
@@ -79,7 +79,7 @@ plain-words = refl
 -- Held on the way, of words 0, 1, 64, 65 and 66, whose positions are 6, 7, 64, 65 and 66.
 abbrev held : ℕ → List Bool
 held many =
-    let heard = heardOn (partOfCase many) in
+    let heard = heardOn [] (partOfCase many) in
     holds heard 0 0 ∷ holds heard 0 1 ∷ holds heard 0 64 ∷ holds heard 0 65 ∷ holds heard 0 66 ∷ []
 
 held-0 : held 0 ≡ false ∷ false ∷ false ∷ false ∷ false ∷ []

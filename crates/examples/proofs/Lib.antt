@@ -11,3 +11,4 @@ mod RefutedOrders
 mod RefutedTickets
 mod WaitingAllowed
 mod ExamplesHeard
+mod ExamplesShelves

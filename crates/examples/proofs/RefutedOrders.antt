@@ -21,10 +21,9 @@ use Rattle.edits.specs.declared.Edit.the-variants.{Add}
 use Rattle.edits.specs.Opened.{openedTicket}
 use Rattle.frames.specs.declared.Answer.the-variants as Answer
 use Rattle.frames.specs.Request.{Open, Step, Look, View}
-use Rattle.calls.specs.Run.{Heard, Run}
+use Rattle.calls.specs.Run.{Heard, Run, sharing}
 use Rattle.calls.specs.Order.{Verdict, granted, stale, holdsWord, HeldBy}
 use Rattle.calls.specs.Linearizable.{Linearizable}
-use Rattle.calls.specs.Stream.{sharing}
 use Rattle.calls.specs.Bench.{thatMeasure, firstLeg}
 use Rattle.calls.proofs.ExampleCalls.{everyRun, heardAs}
 use Rattle.examples.proofs.OneTeam.{notedBy, whoever}

@@ -28,11 +28,11 @@ abbrev opening : List Call
 opening = calls (Open 0 adding ∷ [])
 
 abbrev opened : Run
-opened = run opening
+opened = run [] opening
 
 opened-right : Linearizable opened
 unfolding everyRun areBytes
-opened-right = demand3 opening (refl, tt)
+opened-right = demand3 [] opening (refl, tt)
 
 -- and its first step changes nothing and says that team 1 holds word 0.
 abbrev waiting : Run
@@ -85,4 +85,8 @@ waiting-allowed = record {
   tries-add-up = tt;
   in-turn = refl;
   noted-stand = stands;
+  comes-back = opened-right .comes-back;
+  backs-filled = opened-right .backs-filled;
+  shelves-agree = opened-right .shelves-agree;
+  filled-heard = opened-right .filled-heard;
 }

@@ -178,4 +178,11 @@ impl Refusal {
     pub const RANGE: u16 = 10;
 
     pub const REPEATED: u16 = 11;
+
+    // These are of calls without a frame, and are returned.
+    pub const TICKET_STANDS: u16 = 14;
+
+    pub const STORE: u16 = 19;
+
+    pub const SHELF: u16 = 20;
 }

@@ -6,7 +6,8 @@ use mathlib.Core.List.{List}
 use mathlib.Core.Option.{Option, none, some}
 use native.Mathlib.Omega.{arith}
 use lib.ListN.{length}
-use Rattle.words.specs.Words.{wordsInBook, teamCount}
+use Rattle.words.specs.Tests.{Every}
+use Rattle.words.specs.Words.{Words, wordsInBook, teamCount}
 use Rattle.legs.specs.Positions.{positionOf}
 use Rattle.tickets.specs.declared.Ticket.{Ticket}
 use Rattle.tickets.specs.Tickets.{ticketOf, targetsIn, wordsIn, hasTicket}
@@ -15,9 +16,9 @@ use Rattle.edits.specs.Ordering.{RisesStrictly}
 use Rattle.edits.specs.Views.{viewTargets}
 use Rattle.edits.proofs.Stored.{stored-targets-rise}
 use Rattle.edits.proofs.Views.{view-targets-rise}
-use Rattle.calls.specs.Run.{Call, OfBytes, Shared, run}
+use Rattle.calls.specs.Run.{Call, Admitted, Shared, run}
 use Rattle.calls.specs.Order.{Asked, anEdit, aView, wordsAsked, Noted, notesOn}
-use Rattle.calls.specs.Linearizable.{Every, heardOn}
+use Rattle.calls.specs.Linearizable.{heardOn}
 use Rattle.calls.proofs.Tied.{Tied, KnownAs}
 use Rattle.calls.proofs.Demand3.{run-table, run-good}
 use Rattle.progress.specs.Rounds.{EveryTicketGetsDone, AllRise}
@@ -40,12 +41,12 @@ steady-as : (shared : Shared) {plain : ℕ → ℕ} → length (shared .book) �
     → Steady positionOf shared
 steady-as shared {plain} whole teams agree rise = record { whole = whole; teams = teams; going = record { plain = plain; agree = agree; rise = rise } }
 
-run-steady : (calls : List Call) → Every OfBytes calls → Steady positionOf (run calls .end)
-run-steady calls bytes =
-    let good = run-good calls bytes in
-    steady-as (run calls .end) (good .whole) (run-table calls .teams) (good .agree)
-    (λ team stands. rise-of (ticketOf (run calls .end .tickets) team) (notesOn (heardOn calls) .tickets team) (good .tied team) stands)
+run-steady : (store : Words) (calls : List Call) → Every Admitted calls → Steady positionOf (run store calls .end)
+run-steady store calls bytes =
+    let good = run-good store calls bytes in
+    steady-as (run store calls .end) (good .whole) (run-table store calls .teams) (good .agree)
+    (λ team stands. rise-of (ticketOf (run store calls .end .tickets) team) (notesOn (heardOn store calls) .tickets team) (good .tied team) stands)
 
 -- So every ticket gets done, views included.
 pub every-ticket-gets-done : EveryTicketGetsDone
-every-ticket-gets-done calls bytes rounds goes many = all-get-done positionOf (run calls .end) (run-steady calls bytes) rounds goes (omega arith)
+every-ticket-gets-done store calls bytes rounds goes many = all-get-done positionOf (run store calls .end) (run-steady store calls bytes) rounds goes (omega arith)

@@ -8,7 +8,7 @@ use native.Mathlib.Omega.{arith}
 use native.Mathlib.Decide.{ℕ-discrete, decLt}
 use lib.ListN.{length, length-set, List·getD-eq-default}
 use borrow.Author.Tests.{eq-eqb, ne-eqb}
-use Rattle.words.specs.Tests.{occurs, distinct}
+use Rattle.words.specs.Tests.{occurs, distinct, Every}
 use Rattle.words.specs.Words.{wordsInBook, teamCount}
 use Rattle.words.proofs.Tests.{is-false}
 use Rattle.tickets.specs.declared.Ticket.{Ticket}
@@ -21,8 +21,7 @@ use Rattle.tickets.proofs.Slots.{slot-other, table-slots}
 use Rattle.tickets.proofs.Stepping.{length-kept}
 use Rattle.tickets.proofs.WellMade.{fit-well-made}
 use Rattle.frames.specs.Answers.{longestAnswer}
-use Rattle.calls.specs.Run.{Shared, leftBy, runFrom}
-use Rattle.calls.specs.Linearizable.{Every}
+use Rattle.calls.specs.Run.{Shared, onward, leftBy, runFrom}
 use Rattle.calls.proofs.Tables.{standing-inside}
 use Rattle.progress.specs.Rounds.{Turn, stepCall, teamsIn, Stands, RoundFor, afterRound, afterRounds, RoundsFrom, targetsStanding, NoneStands, Waits}
 use Rattle.progress.proofs.Chain.{not-all-wait}
@@ -98,13 +97,13 @@ module _ (position : ℕ → ℕ) where
     goes = step-goes position (shared .book) tickets team (steady .going) stands
 
     moved : Moves position (shared .book) tickets team after
-        → (leftOf record { book = stepOf (shared .book) (tickets team) team .1; tickets = withTicket (shared .tickets) team after } < leftOf shared)
+        → (leftOf (onward shared (stepOf (shared .book) (tickets team) team .1) (withTicket (shared .tickets) team after)) < leftOf shared)
         ⊎ (Waits (shared .book) (tickets team) × (stepOf (shared .book) (tickets team) team .1 ≡ shared .book)
-        × (leftOf record { book = stepOf (shared .book) (tickets team) team .1; tickets = withTicket (shared .tickets) team after } ≡ leftOf shared))
+        × (leftOf (onward shared (stepOf (shared .book) (tickets team) team .1) (withTicket (shared .tickets) team after)) ≡ leftOf shared))
     moved (nearer less) = inl (omega (arith, ap (total teamCount) slots, total-with tickets team after teamCount inside))
     moved (waited waits same as-many) = inr (waits, same, omega (arith, ap (total teamCount) slots, total-with tickets team after teamCount inside))
 
-    step-taken : TurnTaken shared team record { book = stepOf (shared .book) (tickets team) team .1; tickets = withTicket (shared .tickets) team after }
+    step-taken : TurnTaken shared team (onward shared (stepOf (shared .book) (tickets team) team .1) (withTicket (shared .tickets) team after))
     step-taken = record {
       steady = record {
         whole = length-kept (shared .book) (tickets team) team ∙ steady .whole;

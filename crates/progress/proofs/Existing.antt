@@ -8,13 +8,12 @@ use native.Mathlib.Omega.{arith}
 use native.Mathlib.Decide.{ℕ-discrete}
 use lib.ListN.{length, replicate}
 use borrow.Author.Tests.{eq-eqb, ne-eqb}
-use Rattle.words.specs.Tests.{occurs, distinct}
+use Rattle.words.specs.Tests.{occurs, distinct, Every}
 use Rattle.words.specs.Words.{teamCount}
 use Rattle.tickets.specs.declared.Tickets.{Tickets}
 use Rattle.tickets.specs.Tickets.{ticketOf, hasTicket}
 use Rattle.frames.specs.Answers.{longestAnswer}
 use Rattle.calls.specs.Run.{Shared, run}
-use Rattle.calls.specs.Linearizable.{Every}
 use Rattle.calls.specs.Demand1.{TableFits}
 use Rattle.calls.proofs.Tables.{standing-inside}
 use Rattle.calls.proofs.Demand3.{tables-run, run-table}
@@ -79,4 +78,4 @@ rounds-on (suc many) shared table =
     (ap suc (later .0), (there-is-a-round (shared .tickets) (table .teams), later .1))
 
 pub there-are-rounds : ThereAreRounds
-there-are-rounds calls many = rounds-on many (run calls .end) (run-table calls)
+there-are-rounds store calls many = rounds-on many (run store calls .end) (run-table store calls)

@@ -18,7 +18,7 @@ use Rattle.frames.specs.Writing.{requestFrame}
 use Rattle.frames.specs.Answers.{longestAnswer}
 use Rattle.frames.proofs.Asked.{requests-read-back}
 use Rattle.calls.specs.Call.{badlyMade, refusalChecks, refusalOf, Done, requestDone, refusedOr, doneOf, callOf}
-use Rattle.calls.specs.Run.{Shared, leftBy}
+use Rattle.calls.specs.Run.{Shared, onward, leftBy}
 use Rattle.progress.specs.Rounds.{Turn, stepCall, Stands}
 
 module _ (shared : Shared) (turn : Turn) (whole : length (shared .book) ≡ wordsInBook) (inside : turn .team < teamCount) (stands : Stands (shared .tickets) (turn .team))
@@ -45,6 +45,6 @@ module _ (shared : Shared) (turn : Turn) (whole : length (shared .book) ≡ word
 
   -- The step's ticket and words are what is left.
   pub left-by-step : let step = stepOf (shared .book) (ticketOf (shared .tickets) (turn .team)) (turn .team) in
-      leftBy shared (stepCall turn) ≡ record { book = step .1; tickets = withTicket (shared .tickets) (turn .team) (step .0 .ticket) }
+      leftBy shared (stepCall turn) ≡ onward shared (step .1) (withTicket (shared .tickets) (turn .team) (step .0 .ticket))
   unfolding callOf requestDone
-  left-by-step = ap (λ (result : Done). record { book = result .words; tickets = result .tickets }) does-step
+  left-by-step = ap (λ (result : Done). onward shared (result .words) (result .tickets)) does-step

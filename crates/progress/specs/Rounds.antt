@@ -4,7 +4,7 @@ use mathlib.Core.Path.{_≡_}
 use mathlib.Core.List.{List, [], _∷_, map}
 use mathlib.Core.Bool.{true, false, cond}
 use lib.ListN.{length, replicate}
-use Rattle.words.specs.Tests.{occurs, distinct}
+use Rattle.words.specs.Tests.{occurs, distinct, Every}
 use Rattle.words.specs.Words.{Words, teamCount, readOf}
 use Rattle.tickets.specs.declared.Ticket.{Ticket}
 use Rattle.tickets.specs.declared.Tickets.{Tickets}
@@ -15,8 +15,7 @@ use Rattle.frames.specs.Numbers.{Bytes}
 use Rattle.frames.specs.Request.{Step}
 use Rattle.frames.specs.Writing.{requestFrame}
 use Rattle.frames.specs.Answers.{longestAnswer}
-use Rattle.calls.specs.Run.{Call, framed, OfBytes, Shared, runFrom, run}
-use Rattle.calls.specs.Linearizable.{Every}
+use Rattle.calls.specs.Run.{Call, framed, Admitted, Shared, runFrom, run}
 
 -- A team's turn in a round: a step, with an output of its own.
 pub record Turn : Type 0 where
@@ -75,8 +74,8 @@ roundsOn (suc many) shared =
 -- Statement: so after every list of calls there are as many rounds as one likes.
 abbrev pub ThereAreRounds : Type 0
 ThereAreRounds =
-    (calls : List Call) (many : ℕ)
-    → (length (roundsOn many (run calls .end)) ≡ many) × RoundsFrom (run calls .end) (roundsOn many (run calls .end))
+    (store : Words) (calls : List Call) (many : ℕ)
+    → (length (roundsOn many (run store calls .end)) ≡ many) × RoundsFrom (run store calls .end) (roundsOn many (run store calls .end))
 
 -- How many targets the standing tickets of the teams below n have together; and of all teams.
 unfoldable pub targetsBelow : ℕ → Tickets → ℕ
@@ -94,10 +93,10 @@ NoneStands tickets = (team : ℕ) → hasTicket (ticketOf tickets team .phase) �
 -- tickets have targets together, none stands."
 abbrev pub EveryTicketGetsDone : Type 0
 EveryTicketGetsDone =
-    (calls : List Call) → Every OfBytes calls
-    → (rounds : List (List Turn)) → RoundsFrom (run calls .end) rounds
-    → 2 * targetsStanding (run calls .end .tickets) ≤ length rounds
-    → NoneStands (afterRounds (run calls .end) rounds .tickets)
+    (store : Words) (calls : List Call) → Every Admitted calls
+    → (rounds : List (List Turn)) → RoundsFrom (run store calls .end) rounds
+    → 2 * targetsStanding (run store calls .end .tickets) ≤ length rounds
+    → NoneStands (afterRounds (run store calls .end) rounds .tickets)
 
 -- Statement: "With no ticket it takes no round."
 abbrev pub NoTicketNoRound : Type 0

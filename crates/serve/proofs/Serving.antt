@@ -17,7 +17,8 @@ use Rattle.frames.specs.Fields.{longestFrame}
 use Rattle.calls.specs.declared.Stop.{Stop}
 use Rattle.calls.specs.declared.Stop.the-variants.{MoreInput, BadLength}
 use Rattle.calls.specs.declared.Streamed.{Streamed}
-use Rattle.calls.specs.Stream.{streamOf, sharing, PutAt, StopRight, StreamRight, Roomy}
+use Rattle.calls.specs.Run.{sharing}
+use Rattle.calls.specs.Stream.{streamOf, PutAt, StopRight, StreamRight, Roomy}
 use Rattle.calls.specs.Pieces.{goesOn}
 use Rattle.calls.proofs.StreamRun.{stream-is-run}
 use Rattle.calls.proofs.StreamPieces.{room-left, room-suffices}

@@ -9,15 +9,16 @@ use borrow.Author.Tests.{lt-ltb}
 use lib.Dec.{ltb}
 use lib.ListN.{length, take, drop, length-append, length-drop, length-replicate, take-append-drop}
 use lib.Seq.{take-at, take-add, drop-append-le, length-take-le, length-slice}
+use Rattle.calls.specs.Run.{sharing}
+use Rattle.words.specs.Tests.{Every}
 use Rattle.words.specs.Words.{Words, wordsInBook}
 use Rattle.frames.specs.declared.Answer.the-variants.{Refused}
 use Rattle.frames.specs.Numbers.{Bytes}
 use Rattle.frames.specs.Answers.{answerFrame}
 use Rattle.frames.specs.Fields.{longestFrame}
 use Rattle.calls.specs.declared.Streamed.{Streamed}
-use Rattle.calls.specs.Linearizable.{Every}
 use Rattle.calls.specs.Survey.{joined, allWritten, atEnd}
-use Rattle.calls.specs.Stream.{streamOf, roomIn, withRoom, sharing, runOn, StreamRight, Roomy, bytesOf}
+use Rattle.calls.specs.Stream.{streamOf, roomIn, withRoom, runOn, StreamRight, Roomy, bytesOf}
 use Rattle.calls.specs.Pieces.{goesOn, Between, turnOf, afterTurn, piecesFrom, RoomEachTurn}
 use Rattle.calls.proofs.StreamRun.{stream-is-run}
 use Rattle.calls.proofs.StreamPieces.{left-length}
@@ -94,7 +95,7 @@ at-end out (byte ∷ bytes) (suc n) inside =
 
 -- The program's memory, as a turn of the pieces knows it.
 abbrev known : Memory → Between
-known before = record { shared = sharing (before .words) (before .tickets); kept = take (before .have) (before .buffer); out = before .out }
+known before = record { book = before .words; tickets = before .tickets; kept = take (before .have) (before .buffer); out = before .out }
 
 -- What is so before each turn.
 record Ready (before : Memory) : Type 0 where
@@ -154,7 +155,7 @@ module _ (before : Memory) (read : Read) (ready : Ready before) (into : ReadInto
   next-known : known next ≡ afterTurn (known before) piece
   next-known =
       let kept = shift-front buffer (turn .0 .consumed) have consumed-less inside ∙ ap (drop (turn .0 .consumed)) (into .front) in
-      λ i. record { shared = sharing (turn .1) (turn .0 .tickets); kept = kept i; out = turn .2 }
+      λ i. record { book = turn .1; tickets = turn .0 .tickets; kept = kept i; out = turn .2 }
 
   answers : servedAfter buffer have (streamOf (before .words) (before .tickets) (take have buffer) (before .out)) ≡ turnBy before read
   answers = serves-read (before .words) (before .tickets) buffer (before .have) (length piece) (before .out) (λ none. absurd (omega (arith, into .some, none)))

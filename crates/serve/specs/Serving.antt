@@ -5,6 +5,7 @@ use mathlib.Core.List.{List, [], _∷_, _++_, map}
 use mathlib.Core.Bool.{Bool, true, false, cond}
 use lib.ListN.{length, take, drop}
 use lib.Dec.{eqb, ltb}
+use Rattle.words.specs.Tests.{Every}
 use Rattle.words.specs.Words.{Words}
 use Rattle.tickets.specs.declared.Tickets.{Tickets}
 use Rattle.frames.specs.declared.Answer.the-variants.{Refused}
@@ -13,7 +14,6 @@ use Rattle.frames.specs.Answers.{answerFrame, written}
 use Rattle.frames.specs.Fields.{longestFrame}
 use Rattle.calls.specs.declared.Streamed.{Streamed}
 use Rattle.calls.specs.Run.{fresh}
-use Rattle.calls.specs.Linearizable.{Every}
 use Rattle.calls.specs.Survey.{joined, surveyOf}
 use Rattle.calls.specs.Stream.{streamOf, roomIn, withRoom, Roomy}
 use Rattle.calls.specs.Pieces.{goesOn}
@@ -68,7 +68,7 @@ pub record Memory : Type 0 where
 
 -- At first a fresh book, and no byte in the buffer.
 abbrev pub starting : Bytes → Bytes → Memory
-starting buffer out = record { words = fresh .book; tickets = fresh .tickets; buffer = buffer; have = 0; out = out }
+starting buffer out = record { words = fresh [] .book; tickets = fresh [] .tickets; buffer = buffer; have = 0; out = out }
 
 -- A read: the bytes that came, and the buffer after it.
 pub record Read : Type 0 where

@@ -6,12 +6,13 @@ use mathlib.Core.Bool.{true}
 use mathlib.Core.Logic.{_↔_, _≢_}
 use lib.ListN.{length}
 use lib.IntN.{ℤ}
+use Rattle.words.specs.Tests.{Every}
 use Rattle.words.specs.Words.{Words, wordsInBook, lastLeg, measureWord, readOf}
 use Rattle.legs.specs.Legs.{compassUnit, clinoUnit, clinoOffset, isPlumb}
 use Rattle.plain.specs.Plain.{Plain, wordOf, Sound}
-use Rattle.calls.specs.Run.{Call, OfBytes}
+use Rattle.calls.specs.Run.{Call, Admitted}
 use Rattle.calls.specs.Order.{HeldBy}
-use Rattle.calls.specs.Linearizable.{Every, heardOn, bookAfter}
+use Rattle.calls.specs.Linearizable.{heardOn, bookAfter}
 use Rattle.soundness.specs.declared.Checked.the-variants.{Yes, No}
 use Rattle.soundness.specs.Answering.{scratchBytes, checkOf}
 
@@ -35,12 +36,12 @@ PlumbCompassIsUnsound =
     → checkOf words room ≡ No
 
 -- No team holds any word after a list of calls.
-abbrev pub NothingHeld : List Call → Type 0
-NothingHeld calls = (team word : ℕ) → ¬ HeldBy (heardOn calls) team word
+abbrev pub NothingHeld : Words → List Call → Type 0
+NothingHeld store calls = (team word : ℕ) → ¬ HeldBy (heardOn store calls) team word
 
 -- Statement: after every list of calls from a fresh book, where no team holds any word, the answer is yes.
 abbrev pub UnheldBooksAreSound : Type 0
 UnheldBooksAreSound =
-    (calls : List Call) → Every OfBytes calls → NothingHeld calls
+    (store : Words) (calls : List Call) → Every Admitted calls → NothingHeld store calls
     → (room : ℕ) → scratchBytes ≤ room
-    → checkOf (bookAfter calls) room ≡ Yes
+    → checkOf (bookAfter store calls) room ≡ Yes

@@ -2,6 +2,7 @@ pub mod Made
 pub mod Settled
 pub mod Swapping
 pub mod Slots
+pub mod Standing
 pub mod TargetLists
 pub mod Names
 pub mod Passing

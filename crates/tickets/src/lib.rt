@@ -7,7 +7,7 @@ ghost use lib.Dec.{eqb};
 ghost use Rattle.words.specs.Tests.{occurs, allOccur};
 ghost use Rattle.words.specs.Words.{Words, wordsInBook, teamCount, mostTargets, holderOf, readOf};
 ghost use Rattle.tickets.specs.declared.Phase.the-variants.{Claiming, Putting, Viewing, Viewed};
-ghost use Rattle.tickets.specs.Tickets.{noTicket, freshTickets, targetAt, targetsIn, wordsIn, namedIn, hasTicket, isView, targetWellMade, countsWellMade, viewWellMade, wellMade};
+ghost use Rattle.tickets.specs.Tickets.{noTicket, freshTickets, targetAt, targetsIn, wordsIn, namedIn, hasTicket, standsBelow, isView, targetWellMade, countsWellMade, viewWellMade, wellMade};
 ghost use Rattle.tickets.specs.Steps.{tries, oneMoreTry, advanced, swapTried, stepped, claimed, put, givenBack, settledIn, settled, noting, viewClaimed, valueNoted, valueNamed, valuesSeen, viewGivenBack, asStep, finishes, afterAnswer, AnswerFits, stepOf, lookOf};
 ghost use Rattle.tickets.specs.Going.{isClaiming, isPutting, isEdit, nextOf, endOf, continues, wentOn};
 use words::Limits;
@@ -827,6 +827,21 @@ pub fn view_step(book: &mut [u64], ticket: Ticket, team: u16) -> Stepped
         Phase::Putting => view_give_back_step(book, ticket, team),
         Phase::GivingBack => view_give_back_step(book, ticket, team),
     }
+}
+
+// Whether some team has a ticket.
+pub fn any_stands(tickets: Tickets) -> bool
+    ensures { λ r. ⌜ r ≡ standsBelow teamCount tickets ⌝ }
+{
+    let mut team: usize = Limits::TEAMS;
+    while 0 < team {
+        team -= 1;
+        let ticket = tickets.slots[team];
+        if ticket.stands() {
+            return true;
+        }
+    }
+    false
 }
 
 // One look at a word: one read.

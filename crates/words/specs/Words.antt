@@ -25,6 +25,13 @@ isHeld x = leb (2 ^ 63) x
 abbrev pub markOf : ℕ → ℕ
 markOf team = 2 ^ 63 + team
 
+-- Three shelves, 0 to 2, in a store of 12,288 words.
+abbrev pub shelfCount : ℕ
+shelfCount = 3
+
+abbrev pub wordsInStore : ℕ
+wordsInStore = shelfCount * wordsInBook
+
 -- Teams 0 to 15.
 abbrev pub teamCount : ℕ
 teamCount = 16

@@ -29,6 +29,9 @@ impl Limits {
     // The most targets that a ticket has room for.
     pub const TARGETS: usize = 6;
 
+    // The shelves of a store, each of which keeps a book.
+    pub const SHELVES: usize = 3;
+
     // A word from here on is held; below it, a value.
     pub const HELD: u64 = 9223372036854775808;
 

@@ -1,0 +1,342 @@
+// A list of calls from standard input, made one after another: what each returns and writes, on standard output. A call is
+// five numbers of 16 bits, low byte first: its tag, the words of the book lent, the words of the store lent, a number, and how
+// many bytes it carries, which follow. What comes behind the last whole call is passed over.
+//
+// - Begin (0): a fresh book, no ticket, no shelf filled; word i of the store becomes the number times i + 1. Writes nothing.
+// - Frame (1): the bytes carried are the frame, the number is the bytes of the output.
+// - Fill (2), come back (3): the number is the shelf.
+// - Tell (4): lines with a digest of the book and of the word behind it, of each shelf and of the word behind the store, with
+//   which shelves are filled, and with the whole output.
+//
+// A frame's line is the number returned and so many bytes of its output (all, if there are fewer); the line of the other
+// calls is the number, 0 if not refused. The output keeps what it holds from one call to the next.
+ghost use Prim.Native.Nat.{_+_, _≤_, _<_};
+ghost use lib.ListN.{length};
+ghost use Rattle.words.specs.Words.{wordsInStore};
+use calls::Outcome;
+use desk::Room;
+use desk::say;
+use frames::numbers::Bits;
+use frames::numbers::read16;
+use libc::STDIN_FILENO;
+use tickets::Tickets;
+use words::Limits;
+
+struct Lent {}
+
+impl Lent {
+    const INPUT: usize = 1048576;
+
+    // For one word more than a store has.
+    const STORE: usize = Limits::SHELVES * Limits::WORDS + 1;
+}
+
+struct Tag {}
+
+impl Tag {
+    const BEGIN: u16 = 0;
+
+    const FRAME: u16 = 1;
+
+    const FILL: u16 = 2;
+
+    const COME_BACK: u16 = 3;
+
+    const TELL: u16 = 4;
+}
+
+// Where the numbers of a call stand, and the bytes before those that it carries.
+struct Place {}
+
+impl Place {
+    const TAG: usize = 0;
+
+    const BOOK: usize = 2;
+
+    const STORE: usize = 4;
+
+    const NUMBER: usize = 6;
+
+    const CARRIED: usize = 8;
+
+    const HEAD: usize = 10;
+}
+
+// A digest takes 32 bits at a time: the prime is the first above 2^32, so that no change of a single word goes unseen.
+struct Digest {}
+
+impl Digest {
+    const FACTOR: u64 = 65599;
+
+    const PRIME: u64 = 4294967311;
+}
+
+fn with_half(digest: u64, half: u64) -> u64 {
+    let before = digest % Digest::PRIME;
+    let more = half % Bits::FOUR_BYTES;
+    (Digest::FACTOR * before + more) % Digest::PRIME
+}
+
+fn digest_of(words: &[u64]) -> u64 {
+    let mut digest: u64 = 0;
+    let mut i: usize = 0;
+    while i < words.len() {
+        digest = with_half(digest, words[i]);
+        digest = with_half(digest, words[i] / Bits::FOUR_BYTES);
+        i += 1;
+    }
+    digest
+}
+
+fn at_most(wanted: usize, most: usize) -> usize
+    ensures { λ r. ⌜ r ≤ most ⌝ }
+{
+    if most < wanted {
+        return most;
+    }
+    wanted
+}
+
+// A digest of each so many words as a book has.
+fn tell_digests(words: &[u64]) {
+    let mut at: usize = 0;
+    while at < words.len() {
+        let left = words.len() - at;
+        let count = at_most(Limits::WORDS, left);
+        let end = at + count;
+        let part = &words[at..end];
+        let digest = digest_of(part);
+        say::number(digest);
+        at += Limits::WORDS;
+    }
+    say::end();
+}
+
+fn tell_flag(flag: bool) {
+    if flag {
+        say::number(1);
+        return;
+    }
+    say::number(0);
+}
+
+fn tell_flags(filled: &[bool; Limits::SHELVES]) {
+    let mut shelf: usize = 0;
+    while shelf < Limits::SHELVES {
+        tell_flag(filled[shelf]);
+        shelf += 1;
+    }
+    say::end();
+}
+
+fn tell(words: &[u64], store: &[u64], filled: &[bool; Limits::SHELVES], out: &[u8]) {
+    say::text(b"book");
+    tell_digests(words);
+    say::text(b"store");
+    tell_digests(store);
+    say::text(b"filled");
+    tell_flags(filled);
+    say::text(b"output");
+    say::bytes(out);
+    say::end();
+}
+
+fn set_words(words: &mut [u64], number: u16)
+    requires { ⌜ (length (now words) ≤ wordsInStore + 1) × (number < 65536) ⌝ }
+{
+    let mut value: u64 = 0;
+    let mut i: usize = 0;
+    while i < words.len() {
+        value += number as u64;
+        words[i] = value;
+        i += 1;
+    }
+}
+
+fn empty_shelves(filled: &mut [bool; Limits::SHELVES]) {
+    let mut shelf: usize = 0;
+    while shelf < Limits::SHELVES {
+        filled[shelf] = false;
+        shelf += 1;
+    }
+}
+
+fn begin(
+    words: &mut [u64; Room::WORDS],
+    store: &mut [u64; Lent::STORE],
+    filled: &mut [bool; Limits::SHELVES],
+    number: u16,
+) -> Tickets
+    requires { ⌜ number < 65536 ⌝ }
+{
+    set_words(words, 0);
+    set_words(store, number);
+    empty_shelves(filled);
+    Tickets::fresh()
+}
+
+fn tell_reply(returned: usize, out: &[u8]) {
+    let count = at_most(returned, out.len());
+    say::plain(returned as u64);
+    say::bytes(&out[0..count]);
+    say::end();
+}
+
+fn call(words: &mut [u64], tickets: Tickets, given: &[u8], space: &mut [u8]) -> Tickets
+    requires { ⌜ 10 ≤ length (now given) ⌝ }
+{
+    let many = at_most(read16(given, Place::BOOK) as usize, words.len());
+    let count = at_most(read16(given, Place::NUMBER) as usize, space.len());
+    let book = &mut words[0..many];
+    let out = &mut space[0..count];
+    let frame = &given[Place::HEAD..];
+    let reply = book::call(book, tickets, frame, out);
+    let after = reply.tickets;
+    tell_reply(reply.written, out);
+    after
+}
+
+fn tell_number(number: u16) {
+    say::plain(number as u64);
+    say::end();
+}
+
+fn tell_outcome(outcome: Outcome) {
+    match outcome {
+        Outcome::Done => tell_number(0),
+        Outcome::Refused(number) => tell_number(number),
+    }
+}
+
+fn fill(
+    words: &[u64],
+    tickets: Tickets,
+    space: &mut [u64],
+    filled: &mut [bool; Limits::SHELVES],
+    given: &[u8],
+)
+    requires { ⌜ 10 ≤ length (now given) ⌝ }
+{
+    let many = at_most(read16(given, Place::BOOK) as usize, words.len());
+    let count = at_most(read16(given, Place::STORE) as usize, space.len());
+    let shelf = read16(given, Place::NUMBER);
+    let store = &mut space[0..count];
+    let outcome = shelves::fill(&words[0..many], tickets, store, filled, shelf as usize);
+    tell_outcome(outcome);
+}
+
+fn come_back(
+    words: &mut [u64],
+    tickets: Tickets,
+    space: &[u64],
+    filled: &[bool; Limits::SHELVES],
+    given: &[u8],
+)
+    requires { ⌜ 10 ≤ length (now given) ⌝ }
+{
+    let many = at_most(read16(given, Place::BOOK) as usize, words.len());
+    let count = at_most(read16(given, Place::STORE) as usize, space.len());
+    let shelf = read16(given, Place::NUMBER);
+    let book = &mut words[0..many];
+    let outcome = shelves::come_back(book, tickets, &space[0..count], filled, shelf as usize);
+    tell_outcome(outcome);
+}
+
+// One call of the list; a tag that isn't known is passed over.
+fn dispatch(
+    words: &mut [u64; Room::WORDS],
+    tickets: Tickets,
+    store: &mut [u64; Lent::STORE],
+    filled: &mut [bool; Limits::SHELVES],
+    out: &mut [u8; Room::OUTPUT],
+    given: &[u8],
+) -> Tickets
+    requires { ⌜ 10 ≤ length (now given) ⌝ }
+{
+    let tag = read16(given, Place::TAG);
+    if tag == Tag::BEGIN {
+        return begin(words, store, filled, read16(given, Place::NUMBER));
+    }
+    if tag == Tag::FRAME {
+        return call(words, tickets, given, out);
+    }
+    if tag == Tag::FILL {
+        fill(words, tickets, store, filled, given);
+        return tickets;
+    }
+    if tag == Tag::COME_BACK {
+        come_back(words, tickets, store, filled, given);
+        return tickets;
+    }
+    if tag == Tag::TELL {
+        tell(words, store, filled, out);
+    }
+    tickets
+}
+
+// How many bytes the first call has; 0 where it isn't whole.
+fn first_call(rest: &[u8]) -> usize
+    ensures { λ r. ⌜ r ≤ length (now (rest .entry)) ⌝ }
+{
+    if rest.len() < Place::HEAD {
+        return 0;
+    }
+    let count = Place::HEAD + read16(rest, Place::CARRIED) as usize;
+    if rest.len() < count {
+        return 0;
+    }
+    count
+}
+
+fn dispatch_all(
+    words: &mut [u64; Room::WORDS],
+    store: &mut [u64; Lent::STORE],
+    filled: &mut [bool; Limits::SHELVES],
+    out: &mut [u8; Room::OUTPUT],
+    input: &[u8],
+) {
+    let mut tickets = Tickets::fresh();
+    let mut at: usize = 0;
+    while at < input.len() {
+        let rest = &input[at..];
+        let count = first_call(rest);
+        if count < Place::HEAD {
+            return;
+        }
+        let end = at + count;
+        let given = &input[at..end];
+        tickets = dispatch(words, tickets, store, filled, out, given);
+        at = end;
+    }
+}
+
+fn dispatch_input(
+    words: &mut [u64; Room::WORDS],
+    store: &mut [u64; Lent::STORE],
+    filled: &mut [bool; Limits::SHELVES],
+    out: &mut [u8; Room::OUTPUT],
+    buffer: &mut [u8],
+) {
+    let have = io::read_full(STDIN_FILENO, buffer);
+    dispatch_all(words, store, filled, out, &buffer[0..have]);
+}
+
+// Takes the buffer as an array, so that the length of a million zeros is known by their type and is not counted.
+fn dispatch_with(
+    words: &mut [u64; Room::WORDS],
+    store: &mut [u64; Lent::STORE],
+    filled: &mut [bool; Limits::SHELVES],
+    out: &mut [u8; Room::OUTPUT],
+    buffer: &mut [u8; Lent::INPUT],
+) {
+    dispatch_input(words, store, filled, out, buffer);
+}
+
+fn main() {
+    let mut words = [0u64; Room::WORDS];
+    let mut store = [0u64; Lent::STORE];
+    let mut filled = [false; Limits::SHELVES];
+    let mut out = [0u8; Room::OUTPUT];
+    let mut buffer = [0u8; Lent::INPUT];
+    dispatch_with(&mut words, &mut store, &mut filled, &mut out, &mut buffer);
+}
