@@ -5,10 +5,10 @@ use mathlib.Core.Bool.{Bool, true, false, cond, not, false≢true}
 use mathlib.Core.List.{List, [], _∷_}
 use native.Mathlib.Omega.{arith}
 use native.Mathlib.Decide.{ℕ-discrete}
-use borrow.Author.Tests.{eq-eqb, ne-eqb, lt-ltb, le-ltb, eqb-true, ltb-true, ltb-false}
+use borrow.Author.Tests.{eq-eqb, ne-eqb, lt-ltb, le-ltb, eqb-true, ltb-true}
 use lib.Dec.{eqb, ltb, lit<}
 use lib.ListN.{length, length-drop}
-use Rattle.words.specs.Tests.{distinct}
+use Rattle.words.specs.Tests.{allHold, distinct}
 use Rattle.words.specs.Words.{Words, wordsInBook, teamCount, mostTargets}
 use Rattle.words.proofs.Tests.{split}
 use Rattle.tickets.specs.declared.Phase.{Phase}
@@ -37,9 +37,9 @@ use Rattle.frames.specs.declared.EditRead.the-variants as EditRead
 use Rattle.frames.specs.declared.Reading.the-variants as Reading
 use Rattle.frames.specs.declared.ViewRead.{ViewRead}
 use Rattle.frames.specs.Numbers.{Bytes, number16}
-use Rattle.frames.specs.Requests.{headBytes, partAfterKind, addKind, stepKind, lookKind, viewKind, lengthOfKind, teamIn, editOfKind, viewWordsIn}
+use Rattle.frames.specs.Requests.{headBytes, partAfterKind, stepKind, lookKind, viewKind, kinds, lengthOfKind, isEditKind, isKind, teamIn, editOfKind, viewWordsIn}
 use Rattle.frames.specs.Fields.{editRead, readAs, viewRead, ViewFields, FieldsOf, Whole}
-use Rattle.frames.proofs.Headers.{fields-of-kind, fields-of-view}
+use Rattle.frames.proofs.Headers.{each-row, kind-row, edit-kind, other-kind, fields-of-kind, fields-of-view}
 use Rattle.decoder.proofs.Decoded.{only-allowed}
 use Rattle.calls.proofs.Refusing.{named-many}
 use Rattle.calls.specs.declared.Aim.{Aim}
@@ -79,44 +79,31 @@ look-outside words word l = ap (λ b. cond b (Answer.Look (lookOf words word)) (
 pub read-allowed : (edit read : Edit) → editRead edit ≡ EditRead.Is read → editAllowed read ≡ true
 read-allowed edit read e = let (same, allowed) = only-allowed edit read e in subst (λ x. editAllowed x ≡ true) same allowed
 
--- A fact of each kind is one of every kind.
-by-kind : (P : ℕ → Type 0) → P 1 → P 2 → P 3 → P 4 → P 5 → P 6 → (kind : ℕ) → addKind ≤ kind → kind ≤ lookKind → P kind
-by-kind P p1 p2 p3 p4 p5 p6 kind first last = elim (ℕ-discrete kind 1) [
-  | yes e ↦ rw e p1
-  | no n1 ↦ elim (ℕ-discrete kind 2) [
-    | yes e ↦ rw e p2
-    | no n2 ↦ elim (ℕ-discrete kind 3) [
-      | yes e ↦ rw e p3
-      | no n3 ↦ elim (ℕ-discrete kind 4) [
-        | yes e ↦ rw e p4
-        | no n4 ↦ elim (ℕ-discrete kind 5) [
-          | yes e ↦ rw e p5
-          | no n5 ↦ let e : kind ≡ 6 = omega arith in rw e p6
-        ]
-      ]
-    ]
-  ]
-]
+-- The part after the kind has room for a first field.
+long-enough : (kind : ℕ) → isKind kind ≡ true → eqb kind viewKind ≡ false → 1 < lengthOfKind kind - 2
+unfolding allHold
+long-enough kind known no-view = ltb-true _ _ (each-row (λ k. ltb 1 (lengthOfKind k - 2)) kinds kind refl (kind-row kind known no-view))
 
-long-enough : (kind : ℕ) → addKind ≤ kind → kind ≤ lookKind → 1 < lengthOfKind kind - 2
-long-enough = by-kind (λ kind. 1 < lengthOfKind kind - 2) (lit< tt) (lit< tt) (lit< tt) (lit< tt) (lit< tt) (lit< tt)
+-- The test of an edit that opens a ticket, by its kind;
+pub opens-by-kind : (ticket : Ticket) (kind : ℕ) (edit : Bool) → edit ≡ isEditKind kind → cond edit (not (hasTicket (ticket .phase))) false ≡ opensEdit ticket kind
+opens-by-kind ticket kind edit is = ap (λ (e : Bool). cond e (not (hasTicket (ticket .phase))) false) is
 
--- What the test of an edit that opens a ticket says,
-pub opens-said : (ticket : Ticket) (kind : ℕ) → opensEdit ticket kind ≡ true → (kind < stepKind) × (hasTicket (ticket .phase) ≡ false)
-opens-said ticket kind opens = go (ltb kind stepKind) (hasTicket (ticket .phase)) refl opens
+-- what it says,
+pub opens-said : (ticket : Ticket) (kind : ℕ) → opensEdit ticket kind ≡ true → (isEditKind kind ≡ true) × (hasTicket (ticket .phase) ≡ false)
+opens-said ticket kind opens = go (isEditKind kind) (hasTicket (ticket .phase)) opens
   where
-    go : (below stands : Bool) → ltb kind stepKind ≡ below → cond below (not stands) false ≡ true → (kind < stepKind) × (stands ≡ false)
-    go true true is opens = absurd (false≢true opens)
-    go true false is opens = (ltb-true _ _ is, refl)
-    go false stands is opens = absurd (false≢true opens)
+    go : (edit stands : Bool) → cond edit (not stands) false ≡ true → (edit ≡ true) × (stands ≡ false)
+    go true true opens = absurd (false≢true opens)
+    go true false opens = (refl, refl)
+    go false stands opens = absurd (false≢true opens)
 
-opens-not : (ticket : Ticket) (kind : ℕ) → opensEdit ticket kind ≡ false → hasTicket (ticket .phase) ≡ false → stepKind ≤ kind
-opens-not ticket kind other none = go (ltb kind stepKind) (hasTicket (ticket .phase)) refl other none
+opens-not : (ticket : Ticket) (kind : ℕ) → opensEdit ticket kind ≡ false → hasTicket (ticket .phase) ≡ false → isEditKind kind ≡ false
+opens-not ticket kind other none = go (isEditKind kind) (hasTicket (ticket .phase)) other none
   where
-    go : (below stands : Bool) → ltb kind stepKind ≡ below → cond below (not stands) false ≡ false → stands ≡ false → stepKind ≤ kind
-    go true true is other none = absurd (false≢true (sym none))
-    go true false is other none = absurd (false≢true (sym other))
-    go false stands is other none = ltb-false _ _ is
+    go : (edit stands : Bool) → cond edit (not stands) false ≡ false → stands ≡ false → edit ≡ false
+    go true true other none = absurd (false≢true (sym none))
+    go true false other none = absurd (false≢true (sym other))
+    go false stands other none = refl
 
 -- and that of an edit's step.
 pub steps-said : (ticket : Ticket) (known : Bool) (kind : ℕ) → stepsEdit ticket known kind ≡ true → (kind ≡ stepKind) × (known ≡ true) × (isEdit (ticket .phase) ≡ true)
@@ -161,24 +148,21 @@ module _ (words : Words) (ticket : Ticket) (part : Bytes) (kind team : ℕ) wher
   pub team-opens-edit : opensEdit ticket kind ≡ true → _≡_ {A = Settled × Words} (openSettled ticket (editRead (editOfKind kind part)), words) (teamSettled words ticket part kind team)
   unfolding teamSettled newSettled
   team-opens-edit opens =
-      let (below, none) = opens-said ticket kind opens in
-      rw (none, ne-eqb kind stepKind (λ step. omega (arith, step, below)), ne-eqb kind viewKind (λ view. omega (arith, view, below))) refl
+      let (edit, none) = opens-said ticket kind opens in
+      let (no-step, no-look, no-view) = edit-kind kind edit in
+      rw (none, no-step, no-view) refl
 
   -- What is known of a frame that opens an edit's ticket or a view.
   pub edit-fields : opensEdit ticket kind ≡ true → TeamFrame words part kind team → EditFields part kind
   edit-fields opens known =
-      let below = opens-said ticket kind opens .0 in
-      record {
-        first = known .first;
-        last = below;
-        long = rw (ne-eqb kind viewKind (λ view. omega (arith, view, below))) at (known .fields);
-      }
+      let edit = opens-said ticket kind opens .0 in
+      record { edit = edit; long = rw (edit-kind kind edit .2) at (known .fields) }
 
   pub view-kind : opensEdit ticket kind ≡ false → hasTicket (ticket .phase) ≡ false → (kind ≡ stepKind → ⊥) → TeamFrame words part kind team → kind ≡ viewKind
-  view-kind other none no-step known =
-      let above = opens-not ticket kind other none in
-      let last = known .last in
-      omega (arith, above, last, no-step, known .no-look)
+  view-kind other none no-step known = elim (ℕ-discrete kind viewKind) [
+    | yes view ↦ view
+    | no no-view ↦ absurd (false≢true (sym (opens-not ticket kind other none) ∙ other-kind kind (known .known) (ne-eqb kind stepKind no-step) (ne-eqb kind lookKind (known .no-look)) (ne-eqb kind viewKind no-view)))
+  ]
 
   pub view-fields : kind ≡ viewKind → TeamFrame words part kind team → ViewFields part
   view-fields e known = rw (eq-eqb kind viewKind e) at (known .fields)
@@ -237,17 +221,14 @@ view-settles ticket view fine is =
 pub team-inside : (frame : Bytes) (kind : ℕ) → Whole frame kind → 1 < length (partAfterKind frame)
 team-inside frame kind whole = elim (ℕ-discrete kind viewKind) [
   | yes e ↦ let fields = fields-of-view (subst (Whole frame) e whole) in omega (arith, fields .long, fields .least)
-  | no v ↦
-      let last = whole .last in
-      subst (λ (l : ℕ). 1 < l) (sym (fields-of-kind whole v)) (long-enough kind (whole .first) (omega (arith, v)))
+  | no v ↦ subst (λ (l : ℕ). 1 < l) (sym (fields-of-kind whole v)) (long-enough kind (whole .known) (ne-eqb kind viewKind v))
 ]
 
 -- What is known of a team's frame, by its part after the kind.
 pub team-known-frame : (words : Words) (frame : Bytes) (kind team : ℕ) (part : Bytes) → length words ≡ wordsInBook → AimKnown frame (Aim.Team kind team) → part ≡ partAfterKind frame → TeamFrame words part kind team
 team-known-frame words frame kind team part book known is = record {
   book = book;
-  first = known .0 .first;
-  last = known .0 .last;
+  known = known .0 .known;
   no-look = known .1;
   fields = subst (FieldsOf kind) (sym is) (known .0 .fields);
   team-known = known .2;

@@ -239,7 +239,7 @@ fn known_well_made(ticket: Ticket, known: bool) -> bool
 fn opens_edit(ticket: Ticket, kind: u16) -> bool
     ensures { λ r. ⌜ r ≡ opensEdit ticket kind ⌝ }
 {
-    if kind < Kind::STEP {
+    if frames::head::is_edit_kind(kind) {
         return !ticket.stands();
     }
     false

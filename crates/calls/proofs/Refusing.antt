@@ -5,9 +5,9 @@ use mathlib.Core.Bool.{Bool, true, false, cond, not, false≢true, true≢false}
 use mathlib.Core.List.{List, [], _∷_}
 use mathlib.Core.Option.{Option, none, some}
 use native.Mathlib.Omega.{arith}
-use borrow.Author.Tests.{leb-true, ltb-false, eqb-true, eq-eqb, ne-eqb, not-false}
+use borrow.Author.Tests.{ltb-false, eqb-true, eq-eqb, ne-eqb, not-false}
 use native.Mathlib.Decide.{ℕ-discrete}
-use lib.Dec.{eqb, leb, ltb}
+use lib.Dec.{eqb, ltb}
 use lib.ListN.{length}
 use Rattle.words.specs.Tests.{someHolds}
 use Rattle.words.specs.Words.{Words, mostTargets}
@@ -18,7 +18,7 @@ use Rattle.tickets.specs.Tickets.{hasTicket, wellMade}
 use Rattle.edits.specs.Views.{allInBook, viewInRange, viewRepeats, FineView}
 use Rattle.frames.specs.Request.{Request, Open, Step, Look, View}
 use Rattle.frames.specs.Numbers.{Bytes, number16}
-use Rattle.frames.specs.Requests.{lengthField, kindField, headBytes, partAfterKind, addKind, stepKind, lookKind, viewKind, lengthOfKind, teamIn, editOfKind, viewWordsIn, requestOfKind, requestIn}
+use Rattle.frames.specs.Requests.{lengthField, kindField, headBytes, partAfterKind, stepKind, lookKind, viewKind, lengthOfKind, teamIn, editOfKind, viewWordsIn, requestOfKind, requestIn}
 use Rattle.frames.specs.Fields.{longestFrame, frameTorn, kindUnknown, lengthWrong, ViewFields, FieldsOf, Whole, fieldOutOfRange, fieldRepeated}
 use Rattle.frames.proofs.Bytes.{length-numbers16}
 use Rattle.frames.proofs.Headers.{whole}
@@ -135,8 +135,7 @@ tests-fail false false false fails = (refl, refl, refl)
 frame-whole : (frame : Bytes) → frameTorn frame ≡ false → kindUnknown frame ≡ false → lengthWrong frame ≡ false → Whole frame (kindField frame)
 frame-whole frame torn unknown wrong =
     let (short, long, other) = tests-fail (ltb (length frame) headBytes) (ltb longestFrame (length frame)) (not (eqb (lengthField frame + 2) (length frame))) torn in
-    let (first, (last, u)) = split (leb addKind (kindField frame) ∷ leb (kindField frame) viewKind ∷ []) (not-false _ unknown) in
-    whole frame (lengthField frame) (kindField frame) (leb-true _ _ first) (leb-true _ _ last) (ltb-false _ _ short) (eqb-true _ _ (not-false _ other)) (not-false _ wrong)
+    whole frame (lengthField frame) (kindField frame) (not-false _ unknown) (ltb-false _ _ short) (eqb-true _ _ (not-false _ other)) (not-false _ wrong)
 
 -- The words that a view's fields name are one to six.
 abbrev pub OneToSix : List ℕ → Type 0

@@ -5,14 +5,12 @@ use mathlib.Core.List.{List, [], _∷_}
 use mathlib.Core.Bool.{Bool, true, false, cond, not}
 use mathlib.Core.Logic.{_⊎_, inl, inr}
 use mathlib.Core.Option.{Option, none, some}
-use native.Mathlib.Omega.{arith}
 use native.Mathlib.Decide.{ℕ-discrete}
-use borrow.Author.Tests.{eq-eqb, ne-eqb, le-ltb, leb-true, not-false}
-use lib.Dec.{eqb, leb, ltb}
+use borrow.Author.Tests.{eq-eqb, ne-eqb, le-ltb, not-false}
+use lib.Dec.{eqb, ltb}
 use lib.ListN.{length}
 use lib.Seq.{set-getD}
 use Rattle.words.specs.Tests.{allHold}
-use Rattle.words.proofs.Tests.{split}
 use Rattle.words.specs.Words.{Words, wordsInBook, teamCount}
 use Rattle.tickets.specs.declared.Ticket.{Ticket}
 use Rattle.tickets.specs.declared.Tickets.{Tickets}
@@ -28,10 +26,10 @@ use Rattle.frames.specs.declared.Header.{Header}
 use Rattle.frames.specs.declared.Header.the-variants as Header
 use Rattle.frames.specs.Request.{Request, Open, Step, Look, View}
 use Rattle.frames.specs.Numbers.{Bytes, number16}
-use Rattle.frames.specs.Requests.{kindField, partAfterKind, addKind, moveKind, stepKind, lookKind, viewKind, teamIn, editOfKind, viewWordsIn, requestOfKind, requestIn}
+use Rattle.frames.specs.Requests.{kindField, partAfterKind, stepKind, lookKind, viewKind, isEditKind, isKind, teamIn, editOfKind, viewWordsIn, requestOfKind, requestIn}
 use Rattle.frames.specs.Answers.{longestAnswer}
 use Rattle.frames.specs.Fields.{frameTorn, kindUnknown, lengthWrong, fieldOutOfRange, fieldRepeated, headerOf, editRead, viewRead}
-use Rattle.frames.proofs.Headers.{kind-tests, refused-tests, edit-asked, step-asked, look-asked, view-asked}
+use Rattle.frames.proofs.Headers.{edit-kind, other-kind, kind-tests, refused-tests, edit-asked, step-asked, look-asked, view-asked}
 use Rattle.calls.specs.declared.Aim.{Aim}
 use Rattle.calls.specs.declared.Aim.the-variants as Aim
 use Rattle.calls.specs.declared.Settled.{Settled}
@@ -92,10 +90,10 @@ step-way words tickets frame team = go (ltb team teamCount) (hasTicket (ticketOf
     go true false made h w = rw h (slot-kept tickets team (Answer.Refused 9) words)
 
 -- An edit: refusals 6, 7, 8, 10 and 11, or its ticket.
-edit-way : (words : Words) (tickets : Tickets) (frame : Bytes) (kind : ℕ) → kind ≤ moveKind
+edit-way : (words : Words) (tickets : Tickets) (frame : Bytes) (kind : ℕ) → isEditKind kind ≡ true
     → laterDone words tickets (Open (teamIn (partAfterKind frame)) (editOfKind kind (partAfterKind frame))) ≡ aimDone words tickets frame (teamAim kind (teamIn (partAfterKind frame)))
 unfolding requestDone settledBy teamSettled newSettled allHold editRead openSettled
-edit-way words tickets frame kind most =
+edit-way words tickets frame kind is-edit =
     go (ltb team teamCount) (hasTicket (ticketOf tickets team .phase)) (wellMade (ticketOf tickets team)) (editInRange edit) (editRepeats edit) refl refl refl refl
   where
     team : ℕ
@@ -105,10 +103,10 @@ edit-way words tickets frame kind most =
     edit = editOfKind kind (partAfterKind frame)
 
     other : eqb kind stepKind ≡ false
-    other = ne-eqb kind stepKind (λ e. omega arith)
+    other = edit-kind kind is-edit .0
 
     no-view : eqb kind viewKind ≡ false
-    no-view = ne-eqb kind viewKind (λ e. omega arith)
+    no-view = edit-kind kind is-edit .2
 
     go : (known stands made range repeats : Bool) → hasTicket (ticketOf tickets team .phase) ≡ stands → wellMade (ticketOf tickets team) ≡ made → editInRange edit ≡ range → editRepeats edit ≡ repeats
         → refusedOr (firstFrom 6 (not known ∷ allHold (stands ∷ not made ∷ []) ∷ stands ∷ false ∷ not range ∷ repeats ∷ [])) words tickets (Open team edit)
@@ -156,12 +154,10 @@ asked-by : (frame : Bytes) (kind : ℕ) → kindField frame ≡ kind → request
 unfolding requestIn
 asked-by frame kind is = ap (λ (k : ℕ). requestOfKind k (partAfterKind frame)) is
 
-kind-below : (frame : Bytes) (kind : ℕ) → headerOf frame ≡ Header.Kind kind → (kind ≡ lookKind → ⊥) → (kind ≡ stepKind → ⊥) → (kind ≡ viewKind → ⊥) → kind ≤ moveKind
-kind-below frame kind header not-look not-step not-view =
+edit-left : (frame : Bytes) (kind : ℕ) → headerOf frame ≡ Header.Kind kind → (kind ≡ lookKind → ⊥) → (kind ≡ stepKind → ⊥) → (kind ≡ viewKind → ⊥) → isEditKind kind ≡ true
+edit-left frame kind header not-look not-step not-view =
     let (torn, unknown, wrong, is) = kind-tests frame kind header in
-    let (least, (most, u)) = split (leb addKind (kindField frame) ∷ leb (kindField frame) viewKind ∷ []) (not-false _ unknown) in
-    let below : kindField frame ≤ viewKind = leb-true _ _ most in
-    omega (arith, below, is, not-look, not-step, not-view)
+    other-kind kind (ap isKind (sym is) ∙ not-false _ unknown) (ne-eqb kind stepKind not-step) (ne-eqb kind lookKind not-look) (ne-eqb kind viewKind not-view)
 
 look-done : (words : Words) (tickets : Tickets) (frame : Bytes) → laterDone words tickets (Look (number16 (partAfterKind frame) 0)) ≡ aimDone words tickets frame Aim.Look
 unfolding settledBy
@@ -208,7 +204,7 @@ module _ (words : Words) (tickets : Tickets) (frame out : Bytes) (whole : length
       | no not-step ↦ elim (ℕ-discrete kind viewKind) [
         | yes view ↦ kind-way kind (teamAim viewKind (teamIn (partAfterKind frame))) (View (teamIn (partAfterKind frame)) (number16 (partAfterKind frame) 2) (viewWordsIn (partAfterKind frame))) e (rw (ne-eqb kind lookKind other, view) refl) (rw view (view-asked (partAfterKind frame))) (view-way words tickets frame)
         | no not-view ↦
-            let edit = kind-below frame kind e other not-step not-view in
+            let edit = edit-left frame kind e other not-step not-view in
             kind-way kind (teamAim kind (teamIn (partAfterKind frame))) (Open (teamIn (partAfterKind frame)) (editOfKind kind (partAfterKind frame))) e (rw (ne-eqb kind lookKind other) refl) (edit-asked kind (partAfterKind frame) edit) (edit-way words tickets frame kind edit)
       ]
     ]

@@ -24,7 +24,7 @@ use Rattle.frames.specs.declared.Reading.{Reading}
 use Rattle.frames.specs.declared.Reading.the-variants as Reading
 use Rattle.frames.specs.declared.ViewRead.{ViewRead}
 use Rattle.frames.specs.Numbers.{Bytes, number16}
-use Rattle.frames.specs.Requests.{partAfterKind, addKind, stepKind, lookKind, viewKind, lengthOfKind, teamIn, editOfKind, viewWordsIn}
+use Rattle.frames.specs.Requests.{partAfterKind, stepKind, lookKind, viewKind, lengthOfKind, isEditKind, isKind, teamIn, editOfKind, viewWordsIn}
 use Rattle.frames.specs.Answers.{longestAnswer}
 use Rattle.frames.specs.Fields.{headerOf, editRead, viewRead, ViewFields, FieldsOf, Whole}
 use Rattle.calls.specs.declared.Aim.{Aim}
@@ -57,8 +57,7 @@ SlotKnown (Aim.Team kind team) = team < teamCount
 -- What is known where a team's frame is answered.
 pub record TeamFrame (words : Words) (part : Bytes) (kind team : ℕ) : Type 0 where
   pub book : length words ≡ wordsInBook
-  pub first : addKind ≤ kind
-  pub last : kind ≤ viewKind
+  pub known : isKind kind ≡ true
   pub no-look : kind ≡ lookKind → ⊥
   pub fields : FieldsOf kind part
   pub team-known : team < teamCount
@@ -101,10 +100,9 @@ newSettled ticket part kind =
     cond (eqb kind viewKind) (viewSettled ticket (viewRead (number16 part 2) (viewWordsIn part)))
     (openSettled ticket (editRead (editOfKind kind part)))
 
--- What is known of an edit to be opened, which is of one of the four kinds and has its fields.
+-- What is known of an edit to be opened, which is of an edit's kind and has its fields.
 pub record EditFields (part : Bytes) (kind : ℕ) : Type 0 where
-  pub first : addKind ≤ kind
-  pub last : kind < stepKind
+  pub edit : isEditKind kind ≡ true
   pub long : length part ≡ lengthOfKind kind - 2
 
 -- A slot passes: a ticket that it has is well made (it is not `badlyMade`). A table passes, if all its slots do.
@@ -137,7 +135,7 @@ stepsEdit ticket known kind = cond (eqb kind stepKind) (cond known (isEdit (tick
 
 -- and whether it is an edit of a team without a ticket. The stream has a way of its own for both.
 abbrev pub opensEdit : Ticket → ℕ → Bool
-opensEdit ticket kind = cond (ltb kind stepKind) (not (hasTicket (ticket .phase))) false
+opensEdit ticket kind = cond (isEditKind kind) (not (hasTicket (ticket .phase))) false
 
 -- What an aimed frame makes of the ticket in its slot and of the words, and its answer.
 unfoldable pub settledBy : Words → Ticket → Bytes → Aim → Settled × Words

@@ -1,5 +1,6 @@
 // Each edit's and a view's fields, read from the part of the frame after its kind. A field out of range ends the reading there.
 ghost use mathlib.Core.Path.{_≡_};
+ghost use mathlib.Core.Bool.{true};
 ghost use mathlib.Core.List.{[], _∷_};
 ghost use Prim.Native.Nat.{_+_, _*_, _-_, _≤_};
 ghost use lib.ListN.{length, take};
@@ -8,7 +9,7 @@ ghost use Rattle.tickets.specs.Tickets.{padded};
 ghost use Rattle.edits.specs.declared.Edit.the-variants as Edit;
 ghost use Rattle.edits.specs.Views.{allInBook};
 ghost use Rattle.edits.specs.Ranges.{sameLeg, namedTwice};
-ghost use Rattle.frames.specs.Requests.{addKind, correctKind, strikeKind, moveKind, lengthOfKind, addIn, correctIn, strikeIn, moveIn, editOfKind, viewWordsIn};
+ghost use Rattle.frames.specs.Requests.{addKind, correctKind, strikeKind, moveKind, lengthOfKind, isEditKind, addIn, correctIn, strikeIn, moveIn, editOfKind, viewWordsIn};
 ghost use Rattle.frames.specs.Numbers.{number16};
 ghost use Rattle.frames.specs.Fields.{editRead, ViewFields, readAs, viewRead};
 ghost use Rattle.frames.specs.declared.Reading.the-variants as Reading;
@@ -211,7 +212,7 @@ fn read_move(part: &[u8]) -> EditRead
 
 // The edit of a frame whose kind is an edit's.
 pub fn read_edit(kind: u16, part: &[u8]) -> EditRead
-    requires { ⌜ (addKind ≤ kind) × (kind ≤ moveKind) × (length (now part) ≡ lengthOfKind kind - 2) ⌝ }
+    requires { ⌜ (isEditKind kind ≡ true) × (length (now part) ≡ lengthOfKind kind - 2) ⌝ }
     ensures { λ r. ⌜ r ≡ editRead (editOfKind kind (now (part .entry))) ⌝ }
 {
     match kind {

@@ -2,11 +2,11 @@
 use Prim.Native.Nat.{ℕ, _+_, _*_, _-_, _≤_}
 use mathlib.Core.Path.{_≡_}
 use mathlib.Core.List.{List, [], _∷_}
-use mathlib.Core.Bool.{Bool, false, not, cond}
+use mathlib.Core.Bool.{Bool, true, false, not, cond}
 use lib.ListN.{length}
 use lib.Dec.{eqb, ltb}
 use lib.IntN.{ℤ}
-use Rattle.words.specs.Tests.{allHold, someHolds, within}
+use Rattle.words.specs.Tests.{allHold, someHolds}
 use Rattle.words.specs.Words.{wordsInBook, mostTargets}
 use Rattle.legs.specs.declared.Measure.{Measure}
 use Rattle.legs.specs.Legs.{clinoInRange, measureInRange}
@@ -33,7 +33,7 @@ use Rattle.frames.specs.declared.Reading.{Reading}
 use Rattle.frames.specs.declared.Reading.the-variants as Reading
 use Rattle.frames.specs.declared.ViewRead.{ViewRead}
 use Rattle.frames.specs.Numbers.{Bytes}
-use Rattle.frames.specs.Requests.{lengthField, kindField, headBytes, partAfterKind, addKind, stepKind, viewKind, lengthOfKind, lengthFits}
+use Rattle.frames.specs.Requests.{lengthField, kindField, headBytes, partAfterKind, stepKind, viewKind, lengthOfKind, isKind, lengthFits}
 
 -- A frame has at most 64 bytes.
 abbrev pub longestFrame : ℕ
@@ -43,9 +43,9 @@ longestFrame = 64
 abbrev pub frameTorn : Bytes → Bool
 frameTorn frame = someHolds (ltb (length frame) headBytes ∷ ltb longestFrame (length frame) ∷ not (eqb (lengthField frame + 2) (length frame)) ∷ [])
 
--- 4. The kind isn't 1 to 7.
+-- 4. The kind is none of the kinds.
 abbrev pub kindUnknown : Bytes → Bool
-kindUnknown frame = not (within addKind viewKind (kindField frame))
+kindUnknown frame = not (isKind (kindField frame))
 
 -- 5. The length isn't that of the kind.
 abbrev pub lengthWrong : Bytes → Bool
@@ -78,10 +78,9 @@ pub record ViewFields (part : Bytes) : Type 0 where
 abbrev pub FieldsOf : ℕ → Bytes → Type 0
 FieldsOf kind part = cond (eqb kind viewKind) (ViewFields part) (length part ≡ lengthOfKind kind - 2)
 
--- A frame that none of the three refuses: its kind is 1 to 7, and the part after the kind has its fields.
+-- A frame that none of the three refuses: its kind is known, and the part after the kind has its fields.
 pub record Whole (frame : Bytes) (kind : ℕ) : Type 0 where
-  pub first : addKind ≤ kind
-  pub last : kind ≤ viewKind
+  pub known : isKind kind ≡ true
   pub head : headBytes ≤ length frame
   pub fields : FieldsOf kind (partAfterKind frame)
 

@@ -1,11 +1,11 @@
 -- "Frames": the kinds, their lengths, and the fields of each.
 use Prim.Native.Nat.{ℕ, _+_, _*_, _-_, _/_, _%_}
 use mathlib.Core.Path.{_≡_}
-use mathlib.Core.List.{List, [], _∷_}
-use mathlib.Core.Bool.{Bool, true, cond}
+use mathlib.Core.List.{List, [], _∷_, _++_}
+use mathlib.Core.Bool.{Bool, true, not, cond}
 use lib.ListN.{length, drop}
 use lib.Dec.{eqb}
-use Rattle.words.specs.Tests.{allHold, within}
+use Rattle.words.specs.Tests.{allHold, someHolds, within}
 use Rattle.words.specs.Words.{mostTargets}
 use Rattle.legs.specs.declared.Stations.{Stations}
 use Rattle.legs.specs.declared.Measure.{Measure}
@@ -58,15 +58,31 @@ lookKind = 6
 abbrev pub viewKind : ℕ
 viewKind = 7
 
--- Add (length 24), Correct (28), Strike (26), Move (24), Step (4), Look (4); 0 for a view, whose length varies, and for no kind.
+-- Each kind and its length, which is never 0: of the edits Add (length 24), Correct (28), Strike (26) and Move (24),
+abbrev pub editKinds : List (ℕ × ℕ)
+editKinds = (addKind, 24) ∷ (correctKind, 28) ∷ (strikeKind, 26) ∷ (moveKind, 24) ∷ []
+
+-- and of all but a view, whose length varies: besides the edits Step (4) and Look (4).
+abbrev pub kinds : List (ℕ × ℕ)
+kinds = editKinds ++ (stepKind, 4) ∷ (lookKind, 4) ∷ []
+
+-- The length beside a kind; 0 where it stands in no row.
+abbrev pub lengthIn : List (ℕ × ℕ) → ℕ → ℕ
+lengthIn [] kind = 0
+lengthIn (row ∷ rows) kind = cond (eqb kind (row .0)) (row .1) (lengthIn rows kind)
+
+abbrev pub hasRow : List (ℕ × ℕ) → ℕ → Bool
+hasRow rows kind = not (eqb (lengthIn rows kind) 0)
+
 abbrev pub lengthOfKind : ℕ → ℕ
-lengthOfKind kind =
-    cond (eqb kind addKind) 24
-    (cond (eqb kind correctKind) 28
-    (cond (eqb kind strikeKind) 26
-    (cond (eqb kind moveKind) 24
-    (cond (eqb kind stepKind) 4
-    (cond (eqb kind lookKind) 4 0)))))
+lengthOfKind kind = lengthIn kinds kind
+
+-- A number is an edit's kind; it is a kind.
+abbrev pub isEditKind : ℕ → Bool
+isEditKind kind = hasRow editKinds kind
+
+abbrev pub isKind : ℕ → Bool
+isKind kind = someHolds (hasRow kinds kind ∷ eqb kind viewKind ∷ [])
 
 -- A view: the kind, the team and n take 6 bytes, each word 2.
 abbrev pub lengthOfView : ℕ → ℕ
@@ -154,7 +170,7 @@ editOfKind kind part =
 abbrev pub viewWordsIn : Bytes → List ℕ
 viewWordsIn part = numbers16 ((length part - 4) / 2) part 4
 
--- What a frame of kind 1 to 7 asks for. (Other kinds are refused before this is looked at.)
+-- What a frame asks for, by its kind. (A number that is no kind is refused before this is looked at.)
 unfoldable pub requestOfKind : ℕ → Bytes → Request
 requestOfKind kind part =
     cond (eqb kind stepKind) (Step (teamIn part))

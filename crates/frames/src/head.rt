@@ -2,7 +2,7 @@
 ghost use mathlib.Core.Path.{_≡_};
 ghost use Prim.Native.Nat.{_≤_};
 ghost use lib.ListN.{length};
-ghost use Rattle.frames.specs.Requests.{headBytes, partAfterKind, lengthOfKind, lengthFits};
+ghost use Rattle.frames.specs.Requests.{headBytes, partAfterKind, viewKind, lengthOfKind, isEditKind, lengthFits};
 ghost use Rattle.frames.specs.Fields.{headerOf, WholeIfKnown, isStep};
 use crate::Frame;
 use crate::Header;
@@ -21,7 +21,7 @@ pub fn part_after_kind(frame: &[u8]) -> &[u8]
     &frame[Frame::HEAD..]
 }
 
-// What the length field of each kind says; 0 for no kind.
+// What the length field of each kind says; 0 for a view, whose length varies, and for no kind.
 fn length_of_kind(kind: u16) -> u16
     ensures { λ r. ⌜ r ≡ lengthOfKind kind ⌝ }
 {
@@ -36,16 +36,23 @@ fn length_of_kind(kind: u16) -> u16
     }
 }
 
-// Whether the length field fits the kind. A view's says how many words there are.
-fn length_fits(kind: u16, length: u16) -> bool
-    ensures { λ r. ⌜ r ≡ lengthFits kind length ⌝ }
+// Whether a kind is an edit's.
+pub fn is_edit_kind(kind: u16) -> bool
+    ensures { λ r. ⌜ r ≡ isEditKind kind ⌝ }
 {
-    if length == length_of_kind(kind) {
-        return kind != Kind::VIEW;
+    match kind {
+        Kind::ADD => true,
+        Kind::CORRECT => true,
+        Kind::STRIKE => true,
+        Kind::MOVE => true,
+        _ => false,
     }
-    if kind != Kind::VIEW {
-        return false;
-    }
+}
+
+// Whether the length field is a view's, which says how many words there are.
+fn fits_view(length: u16) -> bool
+    ensures { λ r. ⌜ r ≡ lengthFits viewKind length ⌝ }
+{
     let count = length as usize;
     if count < Frame::BEFORE_WORDS + Frame::FIELD {
         return false;
@@ -85,14 +92,18 @@ pub fn read_header(frame: &[u8]) -> Header
         return Header::Refused(Refusal::TORN);
     }
     let kind = read16(frame, Frame::FIELD);
-    if kind < Kind::ADD {
-        return Header::Refused(Refusal::KIND);
+    let due = length_of_kind(kind);
+    if length == due {
+        return Header::Kind(kind);
     }
-    if Kind::VIEW < kind {
-        return Header::Refused(Refusal::KIND);
-    }
-    if !length_fits(kind, length) {
+    if kind == Kind::VIEW {
+        if fits_view(length) {
+            return Header::Kind(kind);
+        }
         return Header::Refused(Refusal::LENGTH);
     }
-    Header::Kind(kind)
+    if due == 0 {
+        return Header::Refused(Refusal::KIND);
+    }
+    Header::Refused(Refusal::LENGTH)
 }

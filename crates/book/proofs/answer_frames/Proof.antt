@@ -356,7 +356,7 @@ read-edit-requires : tie.Need-read-edit-requires Inv-loop μ-loop
 read-edit-requires c κs =
     let turn = team-turn (c .before .before .before .before .before .before) in
     let fields = edit-fields (turn .words) (ticketIn turn) _ (kind-at (c .before .before .before .before .before .before)) (team-at (c .before .before .before .before .before .before)) (sym (c .before .before .opens-edit .ensures) ∙ c .before .if5 .taken) (team-known-frame (turn .words) (frameIn turn) (kind-at (c .before .before .before .before .before .before)) (team-at (c .before .before .before .before .before .before)) _ (turn .goes .0) (turn .aimed .1) (c .part-after-kind2 .ensures)) in
-    (fields .first, omega (arith, fields .last), fields .long)
+    (fields .edit, fields .long)
 
 enum-known-read : tie.Need-enum-known-read Inv-loop μ-loop
 enum-known-read c = search needs

@@ -4,21 +4,21 @@ use Prim.Native.Nat.{ℕ, _-_}
 use denote.Ref.{now}
 use Rattle.frames.specs.Requests.{lengthOfKind, editOfKind}
 use Rattle.frames.specs.Fields.{editRead}
-use Rattle.frames.proofs.Headers.{fourth}
+use Rattle.frames.proofs.Headers.{move-left}
 use Rattle.decoder.proofs.read_edit.Statement.{statement}
 use Rattle.decoder.proofs.read_edit.Tie as tie
 
 read-add-requires : tie.Need-read-add-requires
-read-add-requires c κs = c .before .before .pre .2 ∙ ap (λ (kind : ℕ). lengthOfKind kind - 2) (c .match .keys1)
+read-add-requires c κs = c .before .before .pre .1 ∙ ap (λ (kind : ℕ). lengthOfKind kind - 2) (c .match .keys1)
 
 read-correct-requires : tie.Need-read-correct-requires
-read-correct-requires c κs = c .before .before .pre .2 ∙ ap (λ (kind : ℕ). lengthOfKind kind - 2) (c .match .keys2)
+read-correct-requires c κs = c .before .before .pre .1 ∙ ap (λ (kind : ℕ). lengthOfKind kind - 2) (c .match .keys2)
 
 read-strike-requires : tie.Need-read-strike-requires
-read-strike-requires c κs = c .before .before .pre .2 ∙ ap (λ (kind : ℕ). lengthOfKind kind - 2) (c .match .keys3)
+read-strike-requires c κs = c .before .before .pre .1 ∙ ap (λ (kind : ℕ). lengthOfKind kind - 2) (c .match .keys3)
 
 read-move-requires : tie.Need-read-move-requires
-read-move-requires c κs = c .before .before .pre .2 ∙ ap (λ (kind : ℕ). lengthOfKind kind - 2) (fourth _ (c .before .before .pre .0) (c .before .before .pre .1) (c .match .rest .0 .0 .1) (c .match .rest .0 .1) (c .match .rest .1))
+read-move-requires c κs = c .before .before .pre .1 ∙ ap (λ (kind : ℕ). lengthOfKind kind - 2) (move-left _ (c .before .before .pre .0) (c .match .rest .0 .0 .1) (c .match .rest .0 .1) (c .match .rest .1))
 
 returns : tie.Need-returns
 unfolding editOfKind
@@ -38,7 +38,7 @@ returns-3 c = let part = now (c .before .before .before .args .part) in
 returns-4 : tie.Need-returns-4
 unfolding editOfKind
 returns-4 c = let part = now (c .before .before .before .args .part) in
-    c .read-move .ensures ∙ ap (λ (kind : ℕ). editRead (editOfKind kind part)) (sym (fourth _ (c .before .before .before .pre .0) (c .before .before .before .pre .1) (c .before .match .rest .0 .0 .1) (c .before .match .rest .0 .1) (c .before .match .rest .1)))
+    c .read-move .ensures ∙ ap (λ (kind : ℕ). editRead (editOfKind kind part)) (sym (move-left _ (c .before .before .before .pre .0) (c .before .match .rest .0 .0 .1) (c .before .match .rest .0 .1) (c .before .match .rest .1)))
 
 pub read-edit-spec : {M : Type 1} → statement M
 read-edit-spec =

@@ -1,9 +1,7 @@
 -- `frames::head::read_header` meets its contract: the tests are made in the order of the refusals.
-use mathlib.Core.Path.{sym, ap, _∙_}
-use borrow.Author.Tests.{not-true, not-false}
+use mathlib.Core.Path.{sym, _∙_}
 use denote.Ref.{now}
-use Rattle.frames.specs.declared.Header.the-variants as Header
-use Rattle.frames.proofs.Headers.{too-short, too-long, other-count, not-torn, kind-below, kind-above, kind-known, other-length, length-due, header-torn, header-unknown, header-wrong, header-kind, step-header, whole}
+use Rattle.frames.proofs.Headers.{too-short, too-long, other-count, header-torn, Untorn, header-due, header-view, header-no-view, header-other, header-no-kind, step-header}
 use borrow.Author.Needs.{needs}
 use Rattle.frames.proofs.head.read_header.Statement.{statement}
 use Rattle.frames.proofs.head.read_header.Tie as tie
@@ -41,36 +39,42 @@ returns-4 c = let frame = now (c .before .before .before .before .before .before
 read16-requires-2 : tie.Need-read16-requires-2
 read16-requires-2 c κs = search needs
 
+length-of-kind-requires : tie.Need-length-of-kind-requires
+length-of-kind-requires c κs = search needs
+
+-- The place at which something is to be shown.
+abbrev Point : {A : Type 0} {B : A → Type 0} → ((c : A) → B c) → Type 0
+Point {A} shown = A
+
+-- What is known once both fields are read.
+untorn : (c : Point length-of-kind-requires) → Untorn (now (c .before .before .before .before .before .before .before .before .args .frame)) (c .before .before .read16 .result) (c .read162 .result)
+untorn c = record {
+  is-length = c .before .before .read16 .ensures .0;
+  is-kind = c .read162 .ensures .0;
+  head = c .before .before .before .before .if2 .left;
+  most = c .before .before .before .if3 .left;
+  counted = c .before .if4 .left;
+}
+
 returns-5 : tie.Need-returns-5
-returns-5 c = let frame = now (c .before .before .before .before .before .before .before .before .before .args .frame) in
-    let length-field = c .before .before .before .read16 .ensures .0 in
-    let kind-field = c .before .read162 .ensures .0 in
-    (header-unknown frame (not-torn frame (c .before .before .before .before .before .if2 .left) (c .before .before .before .before .if3 .left) (rw length-field at (c .before .before .if4 .left))) (kind-below frame (rw kind-field at (c .if5 .taken))), tt)
+returns-5 c = header-due (untorn (c .before .before)) (c .if5 .taken ∙ c .before .length-of-kind .ensures)
+
+fits-view-requires : tie.Need-fits-view-requires
+fits-view-requires c κs = search needs
 
 returns-6 : tie.Need-returns-6
-returns-6 c = let frame = now (c .before .before .before .before .before .before .before .before .before .before .args .frame) in
-    let length-field = c .before .before .before .before .read16 .ensures .0 in
-    let kind-field = c .before .before .read162 .ensures .0 in
-    (header-unknown frame (not-torn frame (c .before .before .before .before .before .before .if2 .left) (c .before .before .before .before .before .if3 .left) (rw length-field at (c .before .before .before .if4 .left))) (kind-above frame (rw kind-field at (c .if6 .taken))), tt)
-
-length-fits-requires : tie.Need-length-fits-requires
-length-fits-requires c κs = search needs
+returns-6 c = header-view (untorn (c .before .before .before .before .before)) (c .before .before .if6 .taken) (sym (c .before .fits-view .ensures) ∙ c .if7 .taken)
 
 returns-7 : tie.Need-returns-7
-returns-7 c = let frame = now (c .before .before .before .before .before .before .before .before .before .before .before .before .args .frame) in
-    let length-field = c .before .before .before .before .before .before .read16 .ensures .0 in
-    let kind-field = c .before .before .before .before .read162 .ensures .0 in
-    let fits = sym (c .before .length-fits .ensures) in
-    (header-wrong frame (not-torn frame (c .before .before .before .before .before .before .before .before .if2 .left) (c .before .before .before .before .before .before .before .if3 .left) (rw length-field at (c .before .before .before .before .before .if4 .left))) (kind-known frame (rw kind-field at (c .before .before .before .if5 .left)) (rw kind-field at (c .before .before .if6 .left))) (other-length frame (rw (length-field, kind-field) at (fits ∙ not-true _ (c .if7 .taken)))), tt)
+returns-7 c = (header-no-view (untorn (c .before .before .before .before .before)) (c .before .before .if6 .taken) (sym (c .before .fits-view .ensures) ∙ c .if7 .left), tt)
 
 returns-8 : tie.Need-returns-8
-returns-8 c = let frame = now (c .before .before .before .before .before .before .before .before .before .before .before .before .args .frame) in
-    let length-field = c .before .before .before .before .before .before .read16 .ensures .0 in
-    let kind-field = c .before .before .before .before .read162 .ensures .0 in
-    let fits = sym (c .before .length-fits .ensures) ∙ not-false _ (c .if7 .left) in (
-      ap Header.Kind kind-field ∙ header-kind frame (not-torn frame (c .before .before .before .before .before .before .before .before .if2 .left) (c .before .before .before .before .before .before .before .if3 .left) (rw length-field at (c .before .before .before .before .before .if4 .left))) (kind-known frame (rw kind-field at (c .before .before .before .if5 .left)) (rw kind-field at (c .before .before .if6 .left))) (length-due frame (rw (length-field, kind-field) at fits)),
-      whole frame _ _ (c .before .before .before .if5 .left) (c .before .before .if6 .left) (c .before .before .before .before .before .before .before .before .if2 .left) (c .before .before .before .before .before .if4 .left) fits,
-    )
+returns-8 c =
+    (header-no-kind (untorn (c .before .before .before .before)) (c .before .if6 .left) (sym (c .before .before .before .length-of-kind .ensures) ∙ c .if8 .taken), tt)
+
+returns-9 : tie.Need-returns-9
+returns-9 c = let due = c .before .before .before .length-of-kind .ensures in
+    (header-other (untorn (c .before .before .before .before)) (c .before .if6 .left) (λ same. c .before .before .if5 .left (same ∙ sym due)) (λ none. c .if8 .left (due ∙ none)), tt)
 
 pub read-header-spec : {M : Type 1} → statement M
 read-header-spec =
@@ -85,8 +89,10 @@ read-header-spec =
     add-if4
     returns-4
     read16-requires-2
+    length-of-kind-requires
     returns-5
+    fits-view-requires
     returns-6
-    length-fits-requires
     returns-7
-    returns-8)
+    returns-8
+    returns-9)
