@@ -8,6 +8,7 @@ use lib.IntN.{ℤ, pos, negsuc}
 use lib.ListN.{length, replicate}
 use Rattle.words.specs.Tests.{allHold, someHolds, distinct}
 use Rattle.legs.specs.Legs.{measureInRange}
+use Rattle.legs.specs.Minutes.{hundredthsOf}
 use Rattle.tickets.specs.declared.StepAnswer.the-variants.{Waiting, Granted, Stale, Seen}
 use Rattle.tickets.specs.declared.Values.{Values}
 use Rattle.tickets.specs.Steps.{valuesFrom}
@@ -22,10 +23,11 @@ use Rattle.frames.specs.declared.Header.the-variants as Header
 use Rattle.frames.specs.declared.EditRead.the-variants as EditRead
 use Rattle.frames.specs.declared.Reading.the-variants as Reading
 use Rattle.frames.specs.Numbers.{Bytes, numbers16, numbers64, fields64}
-use Rattle.frames.specs.Requests.{lengthOfKind, lengthFits, addIn, editOfKind, requestOfKind, requestIn}
+use Rattle.frames.specs.Requests.{lengthOfKind, isEditKind, isKind, lengthFits, addIn, addInMinutes, editOfKind, requestOfKind, requestIn}
 use Rattle.frames.specs.Answers.{answerFrame, written}
 use Rattle.frames.specs.Fields.{headerOf, editRead, readAs, viewRead}
 use Rattle.frames.specs.Writing.{requestFrame}
+use Rattle.frames.specs.Minutes.{AddInMinutes, minutesFrame}
 use Rattle.frames.specs.Reading.{answerIn}
 
 -- The whole case's input: 18 00 01 00 00 00 00 00 01 00 00 00 00 00 01 00 02 00 88 13 00 00 28 23 6A FF.
@@ -77,9 +79,42 @@ view-header : headerOf twoWords ≡ Header.Kind 7
 unfolding headerOf lengthFits someHolds allHold
 view-header = refl
 
--- The kinds' lengths.
-lengths : map lengthOfKind (1 ∷ 2 ∷ 3 ∷ 4 ∷ 5 ∷ 6 ∷ []) ≡ 24 ∷ 28 ∷ 26 ∷ 24 ∷ 4 ∷ 4 ∷ []
+-- The kinds' lengths; which numbers are kinds, and which are edits'.
+lengths : map lengthOfKind (1 ∷ 2 ∷ 3 ∷ 4 ∷ 5 ∷ 6 ∷ 17 ∷ 18 ∷ []) ≡ 24 ∷ 28 ∷ 26 ∷ 24 ∷ 4 ∷ 4 ∷ 30 ∷ 40 ∷ []
 lengths = refl
+
+known-kinds : map isKind (0 ∷ 1 ∷ 7 ∷ 8 ∷ 16 ∷ 17 ∷ 18 ∷ 19 ∷ 81 ∷ 82 ∷ []) ≡ false ∷ true ∷ true ∷ false ∷ false ∷ true ∷ true ∷ false ∷ false ∷ false ∷ []
+unfolding someHolds
+known-kinds = refl
+
+edit-kinds : map isEditKind (0 ∷ 1 ∷ 2 ∷ 3 ∷ 4 ∷ 5 ∷ 7 ∷ 16 ∷ 17 ∷ 18 ∷ 19 ∷ []) ≡ false ∷ true ∷ true ∷ true ∷ true ∷ false ∷ false ∷ false ∷ true ∷ true ∷ false ∷ []
+edit-kinds = refl
+
+-- Kind 17 with the length of an Add in hundredths, and kind 16 with its own.
+short-in-minutes : headerOf (24 ∷ 0 ∷ 17 ∷ 0 ∷ replicate 22 0) ≡ Header.Refused 5
+unfolding headerOf lengthFits someHolds allHold
+short-in-minutes = refl
+
+kind-16 : headerOf (30 ∷ 0 ∷ 16 ∷ 0 ∷ replicate 28 0) ≡ Header.Refused 4
+unfolding headerOf lengthFits someHolds allHold
+kind-16 = refl
+
+-- 90° 0′, down 1° 30′ in place of 90.00° and −1.50°: the edit of the whole case.
+abbrev minutesCase : Bytes
+minutesCase =
+    30 ∷ 0 ∷ 17 ∷ 0 ∷ 0 ∷ 0 ∷ 0 ∷ 0 ∷ 1 ∷ 0 ∷ 0 ∷ 0 ∷ 0 ∷ 0 ∷ 1 ∷ 0 ∷ 2 ∷ 0 ∷ 136 ∷ 19 ∷ 0 ∷ 0 ∷ 90 ∷ 0 ∷ 0 ∷ 0 ∷ 1 ∷ 0 ∷ 1 ∷ 0 ∷ 30 ∷ 0 ∷ []
+
+minutes-asked : minutesFrame 0 (AddInMinutes 0 1 0 0 (record { from = 1; to = 2 }) (record { distance = 5000; compassDegrees = 90; compassMinutes = 0; sign = 1; clinoDegrees = 1; clinoMinutes = 30 })) ≡ minutesCase
+unfolding minutesFrame
+minutes-asked = refl
+
+minutes-read : requestIn minutesCase ≡ Request.Open 0 (adding 5000 (negsuc 149))
+unfolding requestIn requestOfKind editOfKind addInMinutes hundredthsOf
+minutes-read = refl
+
+minutes-header : headerOf minutesCase ≡ Header.Kind 17
+unfolding headerOf lengthFits someHolds allHold
+minutes-header = refl
 
 view-lengths : map (lengthFits 7) (6 ∷ 7 ∷ 8 ∷ 9 ∷ 10 ∷ 18 ∷ 19 ∷ 20 ∷ []) ≡ false ∷ false ∷ true ∷ false ∷ true ∷ true ∷ false ∷ false ∷ []
 unfolding lengthFits allHold
