@@ -1,7 +1,7 @@
--- An edit in minutes behaves as one in hundredths: the refusals test the same, and what is asked for is the same.
+-- An edit in minutes behaves as one in hundredths: the refusals test the same, and what is asked for is the same; so it has the same place in a list of calls.
 use Prim.Native.Nat.{ℕ}
 use mathlib.Core.Path.{_≡_, refl, sym, ap, _∙_}
-use mathlib.Core.List.{[], _∷_}
+use mathlib.Core.List.{List, [], _∷_, map}
 use mathlib.Core.Bool.{Bool, true, false, not}
 use mathlib.Core.Option.{Option, none, some}
 use Rattle.words.specs.Words.{Words}
@@ -17,11 +17,14 @@ use Rattle.frames.specs.Requests.{kindField, partAfterKind, anglesOfKind, reque
 use Rattle.frames.specs.Fields.{headerOf, angleOutOfRange, requestOutOfRange, fieldRepeated}
 use Rattle.frames.specs.Writing.{requestFrame}
 use Rattle.frames.proofs.Headers.{kind-tests}
-use Rattle.frames.proofs.Asked.{requests-read-back, request-frames-whole}
+use Rattle.frames.specs.Minutes.{roundedEdit, minutesKind, minutesFrame}
+use Rattle.frames.proofs.Asked.{requests-read-back, request-frames-whole, minutes-read-back, minutes-frames-whole, minutes-frames-are-bytes}
 use Rattle.frames.proofs.Fitting.{edits-read-fit}
+use Rattle.calls.specs.declared.Reply.{Reply}
+use Rattle.calls.specs.Run.{framed, Shared, fresh, onward, answerHeard, heardOf, leftBy, runFrom}
 use Rattle.calls.specs.Call.{bookLengthWrong, outputShort, teamUnknown, ownTicketBadlyMade, opensOverTicket, stepWithoutTicket, check, firstOf, refusalChecks, refusalOf, Done, refusedOr, doneOf, writtenBy, sentOf, callOf}
-use Rattle.calls.specs.Order.{Notes, hearAnswer, hearRequest}
-use Rattle.calls.specs.Minutes.{BehaveAlike, MinutesBehave}
+use Rattle.calls.specs.Order.{Notes, hearAnswer, hearRequest, hearCall, notesFrom, noNotes}
+use Rattle.calls.specs.Minutes.{BehaveAlike, MinutesBehave, MinutesFramesBehave, Twins, alikeFrames, sameCall, oneOf, otherOf, AlikeInOrder}
 
 -- Two whole frames that ask for the same, their angles in range, are answered alike.
 module _ (frame other : Bytes) (kind kind' : ℕ) (header : headerOf frame ≡ Kind kind) (header' : headerOf other ≡ Kind kind') (angles : angleOutOfRange frame ≡ angleOutOfRange other) (same : requestIn frame ≡ requestIn other) where
@@ -78,3 +81,54 @@ minutes-behave frame kind team edit bytes header angles asks =
     let sent : angleOutOfRange frame ≡ false = ap not in-range in
     behave-alike frame (requestFrame (Open team edit)) kind _ header (request-frames-whole (Open team edit) refl)
     (sent ∙ sym (no-angles team edit)) (asks ∙ sym (requests-read-back (Open team edit) (edits-read-fit frame team edit bytes in-range asks)))
+
+pub minutes-frames-behave : MinutesFramesBehave
+minutes-frames-behave team edit fits angles =
+    let frame = minutesFrame team edit in
+    let header = minutes-frames-whole team edit in
+    let (torn, unknown, wrong, is) = kind-tests frame (minutesKind edit) header in
+    let (asks, tested) = minutes-read-back team edit fits in
+    let in-range = ap (λ (k : ℕ). anglesOfKind k (partAfterKind frame)) (sym is) ∙ tested ∙ angles in
+    minutes-behave frame (minutesKind edit) team (roundedEdit edit) (minutes-frames-are-bytes team edit) header in-range asks
+
+-- Two calls that are alike leave the same and are answered alike.
+left-alike : (shared : Shared) (twins : Twins) → leftBy shared (oneOf twins) ≡ leftBy shared (otherOf twins)
+left-alike shared (alikeFrames frame other out alike) =
+    ap (λ (result : Reply × Words × Bytes). onward shared (result .1) (result .0 .tickets)) (alike .called (shared .book) (shared .tickets) out)
+left-alike shared (sameCall call) = refl
+
+answer-alike : (shared : Shared) (twins : Twins) → answerHeard (heardOf shared (oneOf twins)) ≡ answerHeard (heardOf shared (otherOf twins))
+unfolding answerHeard
+answer-alike shared (alikeFrames frame other out alike) =
+    ap (λ (result : Reply × Words × Bytes). answerHeard (record { call = framed frame out; returned = result .0 .written; output = result .2 })) (alike .called (shared .book) (shared .tickets) out)
+answer-alike shared (sameCall call) = refl
+
+-- So do two lists of them, from wherever they begin.
+answers-alike : (twins : List Twins) (shared : Shared) → map answerHeard (runFrom shared (map oneOf twins) .heard) ≡ map answerHeard (runFrom shared (map otherOf twins) .heard)
+unfolding runFrom
+answers-alike [] shared = refl
+answers-alike (first ∷ twins) shared = λ i.
+    answer-alike shared first i
+    ∷ (ap (λ (left : Shared). map answerHeard (runFrom left (map oneOf twins) .heard)) (left-alike shared first) ∙ answers-alike twins (leftBy shared (otherOf first))) i
+
+ends-alike : (twins : List Twins) (shared : Shared) → runFrom shared (map oneOf twins) .end ≡ runFrom shared (map otherOf twins) .end
+unfolding runFrom
+ends-alike [] shared = refl
+ends-alike (first ∷ twins) shared =
+    ap (λ (left : Shared). runFrom left (map oneOf twins) .end) (left-alike shared first) ∙ ends-alike twins (leftBy shared (otherOf first))
+
+notes-alike : (twins : List Twins) (shared : Shared) (notes : Notes) → notesFrom notes (runFrom shared (map oneOf twins) .heard) ≡ notesFrom notes (runFrom shared (map otherOf twins) .heard)
+unfolding runFrom notesFrom
+notes-alike [] shared notes = refl
+notes-alike (alikeFrames frame other out alike ∷ twins) shared notes =
+    let first = alikeFrames frame other out alike in
+    let answered = answerHeard (heardOf shared (framed other out)) in
+    let hears = ap (λ (answer : Option Answer). hearAnswer notes frame answer) (answer-alike shared first) ∙ alike .heard notes answered in
+    ap (λ (after : Notes). notesFrom after (runFrom (leftBy shared (framed frame out)) (map oneOf twins) .heard)) hears
+    ∙ ap (λ (left : Shared). notesFrom (hearAnswer notes other answered) (runFrom left (map oneOf twins) .heard)) (left-alike shared first)
+    ∙ notes-alike twins (leftBy shared (framed other out)) (hearAnswer notes other answered)
+notes-alike (sameCall call ∷ twins) shared notes =
+    notes-alike twins (leftBy shared call) (hearCall notes (heardOf shared call .call) (heardOf shared call))
+
+pub alike-in-order : AlikeInOrder
+alike-in-order store twins = (answers-alike twins (fresh store), ends-alike twins (fresh store), notes-alike twins (fresh store) noNotes)

@@ -8,7 +8,9 @@ use lib.IntN.{pos, negsuc}
 use Rattle.words.specs.Words.{Words, wordsInBook}
 use Rattle.legs.specs.declared.Measure.{Measure}
 use Rattle.legs.specs.Minutes.{Minutes}
-use Rattle.tickets.specs.Tickets.{freshTickets}
+use Rattle.tickets.specs.declared.Tickets.{Tickets}
+use Rattle.tickets.specs.Tickets.{freshTickets, withTicket}
+use Rattle.edits.specs.Opened.{openedTicket}
 use Rattle.frames.specs.Request.{Open, Step}
 use Rattle.frames.specs.Numbers.{Bytes}
 use Rattle.frames.specs.Answers.{longestAnswer}
@@ -79,6 +81,30 @@ corrected-book : play (orderOf [] corrected) ≡ correctedBook
 unfolding everyRun minutesFrame
 corrected-book = refl
 
+-- Added in hundredths at 45.02° and −0.02°, and quoted as 45° 1′, down 0° 1′, both of which are rounded up: granted, to 10° 0′ and down 0° 0′, which is 0.
+abbrev quotedMeasure : Measure
+quotedMeasure = record { distance = 5000; compass = 4502; clino = negsuc 1 }
+
+abbrev quoting : MinutesEdit
+quoting = CorrectInMinutes 0 1 stations (inMinutes 45 1 1 0 1) (inMinutes 10 0 1 0 0)
+
+abbrev quoted : List Call
+quoted = called (requestFrame (Open 0 (firstLeg 1 0 quotedMeasure))) ∷ replicate 10 (called stepFrame) ++ called (minutesFrame 0 quoting) ∷ replicate 4 (called stepFrame)
+
+quoted-order : orderOf [] quoted ≡ decided granted (firstLeg 1 0 quotedMeasure) ∷ decided granted (roundedEdit quoting) ∷ []
+unfolding everyRun minutesFrame
+quoted-order = refl
+
+abbrev levelMeasure : Measure
+levelMeasure = record { distance = 5000; compass = 1000; clino = pos 0 }
+
+abbrev levelBook : Plain
+levelBook = (leg 1 levelMeasure ∷ []) ∷ replicate 31 []
+
+quoted-book : play (orderOf [] quoted) ≡ levelBook
+unfolding everyRun minutesFrame
+quoted-book = refl
+
 -- A plumb leg in minutes: its compass is taken as 0.
 abbrev plumbMeasure : Measure
 plumbMeasure = record { distance = 5000; compass = 0; clino = negsuc 8999 }
@@ -90,26 +116,42 @@ plumb-book : play (decided granted (roundedEdit (adding (inMinutes 17 10 1 90 0)
 unfolding everyRun
 plumb-book = refl
 
--- Refused over a fresh book.
-abbrev refusals : List Bytes → List (Option ℕ)
-refusals frames = map (λ frame. refusalOf (replicate wordsInBook 0) freshTickets frame (replicate longestAnswer 0)) frames
+-- Refused over an empty book and these tickets; over none.
+abbrev refusalsOver : Tickets → List Bytes → List (Option ℕ)
+refusalsOver tickets frames = map (λ frame. refusalOf (replicate wordsInBook 0) tickets frame (replicate longestAnswer 0)) frames
 
--- The ends of the ranges; minute 60 of the compass (10° 60′ would come to 11.00°) and of the clino; degree 360; sign 2; 91°; 90° 1′.
+abbrev refusals : List Bytes → List (Option ℕ)
+refusals frames = refusalsOver freshTickets frames
+
+-- The ends of the ranges, and zero down; minute 60 of the compass (10° 60′ would come to 11.00°) and of the clino; degree 360, at a clino of 90° too; sign 2; 91°; 90° 1′.
 angles-refused :
     refusals (map (λ m. minutesFrame 0 (adding m)) (
     inMinutes 359 59 0 90 0
     ∷ inMinutes 0 0 1 90 0
+    ∷ inMinutes 0 0 1 0 0
     ∷ inMinutes 10 60 0 0 0
     ∷ inMinutes 10 0 0 10 60
     ∷ inMinutes 360 0 0 0 0
+    ∷ inMinutes 360 0 0 90 0
     ∷ inMinutes 10 0 2 0 0
     ∷ inMinutes 10 0 0 91 0
     ∷ inMinutes 10 0 0 90 1
     ∷ []
     ))
-    ≡ none ∷ none ∷ some 10 ∷ some 10 ∷ some 10 ∷ some 10 ∷ some 10 ∷ some 10 ∷ []
+    ≡ none ∷ none ∷ none ∷ some 10 ∷ some 10 ∷ some 10 ∷ some 10 ∷ some 10 ∷ some 10 ∷ some 10 ∷ []
 unfolding everything minutesFrame
 angles-refused = refl
+
+-- Over a ticket, 8 goes before an angle.
+angles-over-ticket :
+    refusalsOver (withTicket freshTickets 0 (openedTicket (firstLeg 1 0 thatMeasure))) (map (λ m. minutesFrame 0 (adding m)) (
+    inMinutes 10 60 0 0 0
+    ∷ inMinutes 10 0 0 0 0
+    ∷ []
+    ))
+    ≡ some 8 ∷ some 8 ∷ []
+unfolding everything minutesFrame
+angles-over-ticket = refl
 
 -- Of a correction, either M; and an angle goes before from equal to to.
 corrections-refused :

@@ -1,10 +1,10 @@
 -- What is asked for is read back from its frame, which 3, 4 and 5 do not refuse; and what is read from bytes has stations of 16 bits.
 use Prim.Native.Nat.{ℕ, _+_, _*_, _-_, _/_, _%_, _<_, _≤_}
 use mathlib.Core.Path.{_≡_, refl, ap, subst, _∙_, sym}
-use mathlib.Core.List.{List, [], _∷_, map}
+use mathlib.Core.List.{List, [], _∷_, _++_, map}
 use mathlib.Core.Bool.{Bool, true, false, cond}
 use native.Mathlib.Omega.{arith}
-use borrow.Author.Tests.{ltb-true, leb-true, eq-eqb, le-leb, le-ltb}
+use borrow.Author.Tests.{ltb-true, leb-true, eq-eqb, lt-ltb, le-leb, le-ltb}
 use lib.Dec.{eqb, leb, ltb}
 use lib.ListN.{length}
 use lib.IntN.{ℤ, pos, negsuc}
@@ -18,11 +18,11 @@ use Rattle.edits.specs.declared.Edit.{Edit}
 use Rattle.edits.specs.declared.Edit.the-variants as Edit
 use Rattle.edits.specs.Ranges.{stationsInRange, editStationsInRange}
 use Rattle.frames.specs.Request.{Request, Open, Step, Look, View}
-use Rattle.frames.specs.Numbers.{Bytes, areBytes, number16, numbers16, signedOf, fits16}
+use Rattle.frames.specs.Numbers.{Bytes, areBytes, bytes32, number16, numbers16, signedOf, fits16}
 use Rattle.frames.specs.Requests.{lengthField, kindField, partAfterKind, teamIn, addKind, correctKind, strikeKind, stepKind, lookKind, viewKind, addMinutesKind, correctMinutesKind, viewWordsIn, stationsAt, measureAt, minutesAt, addIn, correctIn, strikeIn, moveIn, addInMinutes, correctInMinutes, editOfKind, anglesOfKind, requestOfKind, requestIn, lengthFits, StationsFit}
 use Rattle.frames.specs.Fields.{headerOf}
 use Rattle.frames.specs.Writing.{bitsOf, fields16, measureBytes, editNumbers, editMeasures, signedFits, measureFits, requestFrame, RequestsReadBack, RequestFramesWhole}
-use Rattle.frames.specs.Minutes.{MinutesEdit, AddInMinutes, CorrectInMinutes, roundedEdit, anglesOf, minutesBytes, minutesOfEdit, minutesFrame, minutesFit, MinutesReadBack, MinutesFramesWhole}
+use Rattle.frames.specs.Minutes.{MinutesEdit, AddInMinutes, CorrectInMinutes, roundedEdit, anglesOf, minutesBytes, minutesOfEdit, minutesFrame, minutesFit, allMinutesBytes, MinutesReadBack, MinutesFramesWhole, MinutesFramesAreBytes}
 use Rattle.frames.proofs.Bytes.{back16, back32, bytes-after, numbers-fit, numbers-further16, numbers-back16, length-fields16}
 use Rattle.frames.proofs.Headers.{not-torn, length-due, header-kind, view-even}
 
@@ -167,6 +167,33 @@ pub minutes-frames-whole : MinutesFramesWhole
 unfolding headerOf minutesFrame someHolds allHold lengthFits
 minutes-frames-whole team (AddInMinutes passage leg newest count stations m) = refl
 minutes-frames-whole team (CorrectInMinutes passage leg stations old new) = refl
+
+-- A byte before bytes; the bytes of fields, and of M in minutes, before bytes.
+byte-and : (x : ℕ) (bytes : Bytes) → areBytes bytes ≡ true → areBytes (x % 256 ∷ bytes) ≡ true
+unfolding areBytes
+byte-and x bytes h = ap (λ (small : Bool). cond small (areBytes bytes) false) (lt-ltb (x % 256) 256 (omega arith)) ∙ h
+
+fields-and : (numbers : List ℕ) (bytes : Bytes) → areBytes bytes ≡ true → areBytes (fields16 numbers ++ bytes) ≡ true
+fields-and [] bytes h = h
+fields-and (number ∷ numbers) bytes h = byte-and number _ (byte-and (number / 256) _ (fields-and numbers bytes h))
+
+long-and : (x : ℕ) (bytes : Bytes) → areBytes bytes ≡ true → areBytes (bytes32 x ++ bytes) ≡ true
+long-and x bytes h = byte-and x _ (byte-and (x / 256) _ (byte-and (x / 65536) _ (byte-and (x / 65536 / 256) _ h)))
+
+-- The fields of each M follow its distance, and then the next M.
+all-minutes-bytes : (ms : List Minutes) → areBytes (allMinutesBytes ms) ≡ true
+unfolding areBytes
+all-minutes-bytes [] = refl
+all-minutes-bytes (m ∷ ms) = long-and (m .distance) (fields16 (anglesOf m) ++ allMinutesBytes ms) (fields-and (anglesOf m) (allMinutesBytes ms) (all-minutes-bytes ms))
+
+pub minutes-frames-are-bytes : MinutesFramesAreBytes
+unfolding minutesFrame
+minutes-frames-are-bytes team (AddInMinutes passage leg newest count stations m) =
+    let edit = AddInMinutes passage leg newest count stations m in
+    fields-and (30 ∷ addMinutesKind ∷ team ∷ editNumbers (roundedEdit edit)) (allMinutesBytes (minutesOfEdit edit)) (all-minutes-bytes (minutesOfEdit edit))
+minutes-frames-are-bytes team (CorrectInMinutes passage leg stations old new) =
+    let edit = CorrectInMinutes passage leg stations old new in
+    fields-and (40 ∷ correctMinutesKind ∷ team ∷ editNumbers (roundedEdit edit)) (allMinutesBytes (minutesOfEdit edit)) (all-minutes-bytes (minutesOfEdit edit))
 
 pub request-frames-whole : RequestFramesWhole
 unfolding headerOf requestFrame someHolds allHold lengthFits

@@ -165,7 +165,7 @@ takenInRange taken =
 abbrev pub takenFieldOf : Taken → TakenField
 takenFieldOf taken = cond (takenInRange taken) (TakenField.InRange taken) TakenField.OutOfRange
 
--- What the fields of an edit are read as: refused by 10 where one is out of range, then by 11, or else the edit.
+-- What an edit's own fields, in hundredths, are read as: refused by 10 where one is out of range, then by 11, or else the edit.
 unfoldable pub editRead : Edit → EditRead
 editRead edit = cond (editInRange edit) (cond (editRepeats edit) (EditRead.Refused 11) (EditRead.Is edit)) (EditRead.Refused 10)
 
@@ -173,7 +173,7 @@ editRead edit = cond (editInRange edit) (cond (editRepeats edit) (EditRead.Refus
 abbrev pub readIf : Bool → Edit → EditRead
 readIf angles edit = cond angles (editRead edit) (EditRead.Refused 10)
 
--- What the part after an edit's kind is read as;
+-- What the part after an edit's kind is read as: `editRead` of its edit, once its angles in minutes have been tested;
 unfoldable pub readEdit : ℕ → Bytes → EditRead
 readEdit kind part = readIf (anglesOfKind kind part) (editOfKind kind part)
 

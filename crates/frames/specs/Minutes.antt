@@ -72,6 +72,10 @@ MinutesReadBack =
     (requestIn frame ≡ Open team (roundedEdit edit))
     × (anglesOfKind (kindField frame) (partAfterKind frame) ≡ allHold (map anglesInRange (minutesOfEdit edit)))
 
+-- Statement: such a frame is bytes.
+abbrev pub MinutesFramesAreBytes : Type 0
+MinutesFramesAreBytes = (team : ℕ) (edit : MinutesEdit) → areBytes (minutesFrame team edit) ≡ true
+
 -- Statement: every edit that is read from bytes, its angles in range, has room in a frame in hundredths.
 abbrev pub EditsReadFit : Type 0
 EditsReadFit =

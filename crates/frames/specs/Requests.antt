@@ -199,7 +199,7 @@ editOfKind kind part =
     (cond (eqb kind correctMinutesKind) (Edit.Correct (correctInMinutes part))
     (Edit.Move (moveIn part))))))
 
--- The angles of a frame in minutes are in range as they are sent. Other frames have none.
+-- Whether the angles of a frame in minutes are in range as they are sent. Other frames have none in minutes.
 unfoldable pub anglesOfKind : ℕ → Bytes → Bool
 anglesOfKind kind part =
     cond (eqb kind addMinutesKind) (anglesInRange (minutesAt part 14))

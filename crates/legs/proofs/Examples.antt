@@ -12,7 +12,7 @@ use Rattle.legs.specs.declared.Reading.the-variants.{NoLeg, Is}
 use Rattle.legs.specs.Legs.{clinoOffset, isPlumb, placeOf, measureOf, placeInRange, measureInRange}
 use Rattle.legs.specs.Reading.{isPlace, isMeasure, readingOf}
 use Rattle.legs.specs.Positions.{positionOf}
-use Rattle.legs.specs.Minutes.{hundredthsOf, signedBy, compassAngleInRange, clinoAngleInRange}
+use Rattle.legs.specs.Minutes.{hundredthsOf, signedBy, compassAngleInRange, clinoAngleInRange, rounded}
 
 abbrev leg : ℕ → ℕ → ℕ → ℕ → ℕ → ℤ → Leg
 leg passage from to distance compass clino = record {
@@ -36,6 +36,13 @@ minutes : map (λ (angle : ℕ × ℕ). hundredthsOf (angle .0) (angle .1)) ((0,
 unfolding hundredthsOf
 minutes = refl
 
+-- 45° 1′, down 0° 1′: both angles are rounded up.
+both-rounded :
+    rounded (record { distance = 5000; compassDegrees = 45; compassMinutes = 1; sign = 1; clinoDegrees = 0; clinoMinutes = 1 })
+    ≡ record { distance = 5000; compass = 4502; clino = negsuc 1 }
+unfolding hundredthsOf
+both-rounded = refl
+
 half-down : signedBy 1 (hundredthsOf 0 30) ≡ negsuc 49
 unfolding hundredthsOf
 half-down = refl
@@ -44,12 +51,12 @@ zero-down : signedBy 1 (hundredthsOf 0 0) ≡ signedBy 0 (hundredthsOf 0 0)
 unfolding hundredthsOf
 zero-down = refl
 
--- Angles at the ends of their ranges, and one past each: minute 60, degree 360, sign 2, degree 91, and 90 degrees 1 minute. 10 degrees 60 minutes would come to 1,100.
+-- Angles at the ends of their ranges, zero up and down, and one past each end: minute 60, degree 360, sign 2, degree 91, and 90 degrees 1 minute. 10 degrees 60 minutes would come to 1,100.
 compass-ends : map (λ (angle : ℕ × ℕ). compassAngleInRange (angle .0) (angle .1)) ((0, 0) ∷ (359, 59) ∷ (10, 60) ∷ (360, 0) ∷ []) ≡ true ∷ true ∷ false ∷ false ∷ []
 unfolding allHold
 compass-ends = refl
 
-clino-ends : map (λ (angle : ℕ × ℕ × ℕ). clinoAngleInRange (angle .0) (angle .1) (angle .2)) ((0, 90, 0) ∷ (1, 90, 0) ∷ (1, 89, 59) ∷ (0, 10, 60) ∷ (2, 10, 0) ∷ (0, 91, 0) ∷ (0, 90, 1) ∷ []) ≡ true ∷ true ∷ true ∷ false ∷ false ∷ false ∷ false ∷ []
+clino-ends : map (λ (angle : ℕ × ℕ × ℕ). clinoAngleInRange (angle .0) (angle .1) (angle .2)) ((0, 0, 0) ∷ (1, 0, 0) ∷ (0, 90, 0) ∷ (1, 90, 0) ∷ (1, 89, 59) ∷ (0, 10, 60) ∷ (2, 10, 0) ∷ (0, 91, 0) ∷ (0, 90, 1) ∷ []) ≡ true ∷ true ∷ true ∷ true ∷ true ∷ false ∷ false ∷ false ∷ false ∷ []
 unfolding allHold
 clino-ends = refl
 

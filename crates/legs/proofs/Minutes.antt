@@ -1,4 +1,4 @@
--- Angles in minutes, rounded: to the nearest hundredth, within a third of one; figures in range stay so; zero has no sign; plumb at 90 degrees alone.
+-- Angles in minutes, rounded: to the nearest hundredth, within a third of one, both of M; figures in range stay so; zero has no sign; plumb at 90 degrees alone.
 use Prim.Native.Nat.{ℕ, zero, suc, _+_, _*_, _-_, _/_, _≤_, _<_}
 use mathlib.Core.Path.{_≡_, refl, sym, ap, _∙_}
 use mathlib.Core.List.{[], _∷_}
@@ -9,11 +9,11 @@ use native.Mathlib.Decide.{ℕ-discrete, decLt}
 use borrow.Author.Tests.{leb-true, le-leb, lt-ltb, le-ltb, eq-eqb, ne-eqb}
 use lib.Dec.{eqb, leb}
 use lib.IntN.{ℤ, pos, negsuc}
-use Rattle.words.specs.Tests.{within}
+use Rattle.words.specs.Tests.{allHold, within}
 use Rattle.words.proofs.Tests.{split, join}
 use Rattle.legs.specs.Legs.{longestDistance, lastCompass, steepestClino, clinoInRange, isPlumb, measureInRange}
 use Rattle.legs.specs.Reading.{clinoAt}
-use Rattle.legs.specs.Minutes.{Minutes, minutesOf, hundredthsOf, down, signedBy, compassAngleInRange, clinoAngleInRange, anglesInRange, rounded, Rounded, RoundsToTheNearest, RoundedInRange, ZeroHasNoSign, PlumbAtNinety}
+use Rattle.legs.specs.Minutes.{Minutes, minutesOf, hundredthsOf, down, signedBy, compassAngleInRange, clinoAngleInRange, anglesInRange, rounded, Rounded, RoundsToTheNearest, RoundsBothAngles, RoundedInRange, ZeroHasNoSign, PlumbAtNinety}
 
 -- As it is computed: 100 hundredths a degree, and 5/3 a minute.
 pub by-thirds : (degrees minutes : ℕ) → hundredthsOf degrees minutes ≡ 100 * degrees + (5 * minutes + 1) / 3
@@ -32,6 +32,15 @@ rounds-to-the-nearest degrees minutes = by (hundredthsOf degrees minutes) (by-th
       ];
       no-half = λ k half. omega arith;
     }
+
+pub rounds-both-angles : RoundsBothAngles
+rounds-both-angles m = record {
+  distance = refl;
+  compass = rounds-to-the-nearest (m .compassDegrees) (m .compassMinutes);
+  steepness = hundredthsOf (m .clinoDegrees) (m .clinoMinutes);
+  steep = rounds-to-the-nearest (m .clinoDegrees) (m .clinoMinutes);
+  clino = refl;
+}
 
 -- What the test says of each field.
 record AnglesFit (m : Minutes) : Type 0 where
@@ -91,16 +100,9 @@ rounded-in-range m h distance-fits =
     join (within 1 longestDistance (m .distance) ∷ leb (hundredthsOf (m .compassDegrees) (m .compassMinutes)) lastCompass ∷ clinoInRange (signedBy (m .sign) (hundredthsOf (m .clinoDegrees) (m .clinoMinutes))) ∷ [])
     (distance-fits, (le-leb _ _ compass-fits, (signed-fits (m .sign) _ clino-fits, tt)))
 
-zero-signed : (sign : ℕ) → signedBy sign 0 ≡ pos 0
-zero-signed sign = by (eqb sign 0)
-  where
-    by : (up : Bool) → cond up (pos 0) (down 0) ≡ pos 0
-    by true = refl
-    by false = refl
-
 pub zero-has-no-sign : ZeroHasNoSign
-unfolding hundredthsOf
-zero-has-no-sign sign other = zero-signed sign ∙ sym (zero-signed other)
+unfolding hundredthsOf allHold
+zero-has-no-sign = (refl, refl, refl)
 
 pub plumb-at-ninety : PlumbAtNinety
 plumb-at-ninety m h =

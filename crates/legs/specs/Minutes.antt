@@ -77,13 +77,28 @@ pub record Rounded (exact whole : ℕ) : Type 0 where
 abbrev pub RoundsToTheNearest : Type 0
 RoundsToTheNearest = (degrees minutes : ℕ) → Rounded (minutesOf degrees minutes) (hundredthsOf degrees minutes)
 
+-- What M is rounded to: its distance as sent, its compass to the nearest, and its clino so steep, to the nearest, up or down as its sign says.
+pub record MeasureRounded (m : Minutes) (measure : Measure) : Type 0 where
+  pub distance : measure .distance ≡ m .distance
+  pub compass : Rounded (minutesOf (m .compassDegrees) (m .compassMinutes)) (measure .compass)
+  pub steepness : ℕ
+  pub steep : Rounded (minutesOf (m .clinoDegrees) (m .clinoMinutes)) steepness
+  pub clino : measure .clino ≡ signedBy (m .sign) steepness
+
+-- Statement: of every M.
+abbrev pub RoundsBothAngles : Type 0
+RoundsBothAngles = (m : Minutes) → MeasureRounded m (rounded m)
+
 -- Statement: figures in range stay so: the compass never comes to 36,000, nor the clino past 9,000.
 abbrev pub RoundedInRange : Type 0
 RoundedInRange = (m : Minutes) → anglesInRange m ≡ true → within 1 longestDistance (m .distance) ≡ true → measureInRange (rounded m) ≡ true
 
--- Statement: "Up and down zero mean the same."
+-- Statement: "Up and down zero mean the same": both may be sent, and come to the same clino.
 abbrev pub ZeroHasNoSign : Type 0
-ZeroHasNoSign = (sign other : ℕ) → signedBy sign (hundredthsOf 0 0) ≡ signedBy other (hundredthsOf 0 0)
+ZeroHasNoSign =
+    (clinoAngleInRange 0 0 0 ≡ true)
+    × (clinoAngleInRange 1 0 0 ≡ true)
+    × (signedBy 0 (hundredthsOf 0 0) ≡ signedBy 1 (hundredthsOf 0 0))
 
 -- Statement: a leg is plumb at 90 degrees alone, up or down; nothing is rounded to it.
 abbrev pub PlumbAtNinety : Type 0
