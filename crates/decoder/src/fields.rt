@@ -150,7 +150,7 @@ fn clino_in_minutes(part: &[u8], at: usize) -> SignedField
     requires { ⌜ at + 13 < length (now part) ⌝ }
     ensures { λ r. ⌜ r ≡ clinoMinutesFieldOf (number16 (now (part .entry)) (at + 8)) (number16 (now (part .entry)) (at + 10)) (number16 (now (part .entry)) (at + 12)) ⌝ }
 {
-    let Field::InRange(sign) = field_up_to(part, at + 8, 1) else {
+    let Field::InRange(sign) = field_up_to(part, at + 8, Angle::DOWN) else {
         return SignedField::OutOfRange;
     };
     let Field::InRange(degrees) = field_up_to(part, at + 10, Angle::STEEPEST) else {
