@@ -2,7 +2,8 @@
 
 use crate::books;
 use crate::demand3::{check, sweep, Plain};
-use crate::frames::{framed, split, Answer, Field::*, Kind, Request};
+use crate::frames::{framed, nearest_hundredth, split, Answer, Field::*, Kind, Request};
+use crate::frames::{ANGLES, NEW_ANGLES};
 use crate::layout::*;
 use crate::lent;
 use crate::model::{survey, Desk};
@@ -331,6 +332,118 @@ fn the_plain_book_takes_a_plumb_compass_as_0() {
     assert!(!plain.list(0)[0].sound());
 }
 
+/// The first Add in minutes.
+fn minutes_add(team: i64, angles: [i64; 5]) -> Request {
+    let mut add = first_add(team);
+    add.kind = Kind::AddInMinutes;
+    ANGLES.into_iter().zip(angles).for_each(|(field, angle)| add.set(field, angle));
+    add
+}
+
+/// "rounded to the nearest hundredth of a degree, within a third of one; no half
+/// occurs", and by the plain book's own rule alike.
+#[test]
+fn minutes_are_rounded_to_the_nearest_hundredth() {
+    let some = [(0, 1, 2), (0, 2, 3), (0, 30, 50), (0, 59, 98), (90, 0, 9_000), (359, 59, 35_998)];
+    for (degrees, minutes, hundredths) in some {
+        assert_eq!(nearest_hundredth(degrees, minutes), hundredths);
+    }
+    for (degrees, minutes) in (0..360).flat_map(|d| (0..60).map(move |m| (d, m))) {
+        let hundredths = nearest_hundredth(degrees, minutes);
+        assert!((60 * hundredths - 100 * (60 * degrees + minutes)).abs() <= 20);
+        let mut plain = Plain::fresh();
+        assert!(plain.play(&minutes_add(0, [degrees, minutes, 1, degrees / 4, minutes])));
+        let clino = -nearest_hundredth(degrees / 4, minutes);
+        let due = Measure { distance: 5_000, compass: hundredths, clino };
+        assert_eq!(plain.list(0)[0].measure, due, "{degrees} degrees {minutes} minutes");
+    }
+}
+
+#[test]
+fn the_whole_case_in_minutes() {
+    let frame = streams::of_hex(
+        "1E 00 11 00 00 00 00 00 01 00 00 00 00 00 01 00 02 00 88 13 00 00 5A 00 00 00 01 00 01 00 1E 00",
+    );
+    assert_eq!(frame, minutes_add(0, [90, 0, 1, 1, 30]).bytes());
+    let (mut hundredths, mut minutes) = (Desk::fresh(), Desk::fresh());
+    asked(&mut hundredths, first_add(0));
+    assert_eq!(minutes.answer(&frame), Answer::Standing(5));
+    assert_eq!(minutes, hundredths, "the same ticket");
+}
+
+#[test]
+fn angles_in_minutes_at_and_past_their_limits() {
+    let answer = |angles| asked(&mut Desk::fresh(), minutes_add(0, angles));
+    for good in [[359, 59, 0, 89, 59], [0, 0, 1, 90, 0], [359, 59, 0, 90, 0], [0, 0, 1, 0, 0]] {
+        assert_eq!(answer(good), Answer::Standing(5), "{good:?}");
+        let mut muddled = minutes_add(0, good);
+        muddled.set(To, 1);
+        assert_eq!(asked(&mut Desk::fresh(), muddled), Answer::Refused(11));
+    }
+    let past = [[360, 0, 0, 0, 0], [0, 60, 0, 0, 0], [10, 60, 0, 10, 0], [0, 0, 2, 0, 0]];
+    let clinos = [[0, 0, 0, 91, 0], [0, 0, 0, 10, 60], [0, 0, 0, 90, 1], [0, 0, 1, 90, 59]];
+    let far = [[65_535, 0, 0, 0, 0], [0, 65_535, 0, 0, 0], [0, 0, 65_535, 0, 0]];
+    for bad in past.into_iter().chain(clinos).chain(far) {
+        assert_eq!(answer(bad), Answer::Refused(10), "{bad:?}");
+        let mut muddled = minutes_add(0, bad);
+        muddled.set(To, 1);
+        assert_eq!(asked(&mut Desk::fresh(), muddled), Answer::Refused(10), "10 goes first");
+        for angles in [ANGLES, NEW_ANGLES] {
+            let mut correct = steep_edit(Kind::CorrectInMinutes, 0, 0, 0);
+            assert_eq!(asked(&mut Desk::fresh(), correct), Answer::Standing(2));
+            angles.into_iter().zip(bad).for_each(|(field, angle)| correct.set(field, angle));
+            assert_eq!(asked(&mut Desk::fresh(), correct), Answer::Refused(10), "{bad:?}");
+        }
+    }
+}
+
+#[test]
+fn kinds_and_lengths_around_those_in_minutes() {
+    for kind in (0..=255).filter(|kind| ![17, 18].contains(kind) && !(1..=7).contains(kind)) {
+        for length in [4, 24, 28, 30, 40] {
+            let frame = framed(kind, &vec![0; length - 2]);
+            assert_eq!(Desk::fresh().answer(&frame), Answer::Refused(4), "{kind} {length}");
+        }
+    }
+    for (kind, right) in [(17, 30), (18, 40)] {
+        for length in (2..=62).filter(|length| *length != right) {
+            let frame = framed(kind, &vec![0; length - 2]);
+            assert_eq!(Desk::fresh().answer(&frame), Answer::Refused(5), "{kind} {length}");
+        }
+        assert_eq!(Desk::fresh().answer(&framed(kind, &vec![0; right - 2])), Answer::Refused(10));
+    }
+}
+
+/// "The edit then behaves as one in hundredths": two teams quote one leg in either form,
+/// shafts and both zeros among them.
+#[test]
+fn a_leg_is_quoted_in_either_form() {
+    for angles in [[12, 34, 1, 0, 30], [0, 1, 1, 0, 0], [200, 20, 0, 90, 0], [1, 2, 1, 90, 0]] {
+        for minutes_first in [true, false] {
+            let form = |edit: Request, minutes| if minutes { edit } else { edit.in_hundredths() };
+            let mut desk = Desk::fresh();
+            let added = minutes_add(0, angles);
+            assert_eq!(settled(&mut desk, form(added, minutes_first)), Answer::Granted(10));
+            let mut corrected = steep_edit(Kind::CorrectInMinutes, 0, 0, 0);
+            for fields in [ANGLES, NEW_ANGLES] {
+                fields.into_iter().zip(angles).for_each(|(at, angle)| corrected.set(at, angle));
+            }
+            // Up zero for down zero, and another compass for a shaft.
+            if angles[3..] == [0, 0] {
+                corrected.set(Sign, 0);
+            }
+            if angles[3] == 90 {
+                corrected.set(CompassDegrees, 359);
+            }
+            for minutes in [!minutes_first, minutes_first] {
+                assert_eq!(settled(&mut desk, form(corrected, minutes)), Answer::Granted(4));
+            }
+            let figures = added.in_hundredths().measure().taken().written() as u64;
+            assert_eq!(asked(&mut desk, Request::look(66)), Answer::Value(figures));
+        }
+    }
+}
+
 /// No stream reads a leg or checks a book: the lent text and the stored books do.
 #[test]
 fn other_readers_of_plumb_legs_are_told_by_readings_and_books() {
@@ -458,7 +571,7 @@ fn is_of_edit(frames: &[&[u8]], answers: &[Vec<u8>], at: usize) -> bool {
 
 #[test]
 fn demand_three_notices_planted_faults() {
-    let input = streams::contention(3, 3_000);
+    let input = streams::contention(3, 6_000);
     let right: Vec<Vec<u8>> = split(&survey(&input)).iter().map(|bytes| bytes.to_vec()).collect();
     let frames = split(&input);
     for which in 0..19 {
@@ -478,18 +591,26 @@ fn demand_three_notices_planted_faults() {
 
 #[test]
 fn demand_three_tells_wrong_programs_apart() {
-    let input = streams::contention(4, 20_000);
+    let inputs = [streams::minutes(4, 20_000), streams::plumb(4, 0)];
+    let mut otherwise = Vec::new();
     for (name, fault) in FAULTS {
-        let noticed = check(&input, &answers(fault, &input)).is_err();
+        let noticed = inputs.iter().any(|input| check(input, &answers(fault, input)).is_err());
         // A Strike of f = r only waits, for itself. "A step that says Waiting while
         // the word is free: only demand 2's step rule stops it, as demand 3 holds for
         // it", but it names a holder that the word hasn't.
         // Refusals are passed over.
         let kept = [Fault::StrikesItself, Fault::Late].contains(&fault)
             || [Fault::PlumbRangeSkipped, Fault::PlumbRefused].contains(&fault)
+            || [Fault::DownZeroRefused, Fault::SixtyMinutesPass].contains(&fault)
+            || [Fault::SignTwoIsDown, Fault::NinetyAndMinutes].contains(&fault)
+            || [Fault::KindsBetweenKnown, Fault::MinutesUnknownByLength].contains(&fault)
+            || fault == Fault::AnglesAfterStations
             || NOT_OF_STREAMS.contains(&fault);
-        assert_eq!(noticed, !kept, "{name}");
+        if noticed == kept {
+            otherwise.push(name);
+        }
     }
+    assert!(otherwise.is_empty(), "noticed or not: {otherwise:?}");
 }
 
 #[test]

@@ -198,6 +198,7 @@ fn plans(seed: u64, frames: i64) -> Vec<Plan> {
     plans.extend(seeds(1, 100).map(|s| ("full", streams::full as _, s, frames / 50)));
     plans.extend(seeds(1, 150).map(|s| ("at limits", streams::at_limits as _, s, frames / 50)));
     plans.extend(seeds(1, 160).map(|s| ("plumb", streams::plumb as _, s, frames / 50)));
+    plans.extend(seeds(1, 170).map(|s| ("minutes", streams::minutes as _, s, frames / 50)));
     plans.extend(seeds(6, 200).map(|s| ("fuzz", streams::fuzz as _, s, frames / 30)));
     plans.extend(seeds(8, 250).map(|s| ("rounds", streams::in_rounds as _, s, frames / 100)));
     plans.extend(seeds(60, 300).map(|s| ("damaged", streams::damaged as _, s, 120)));

@@ -24,6 +24,34 @@ fn figures(sent: Measure) -> Measure {
     }
 }
 
+/// The edit that the plain book is fed for one in minutes: "behaves as one in
+/// hundredths". Other edits are fed as they are.
+fn fed(edit: &Request) -> Request {
+    let mut fed = *edit;
+    fed.kind = match edit.kind {
+        Kind::AddInMinutes => Kind::Add,
+        Kind::CorrectInMinutes => Kind::Correct,
+        other => other,
+    };
+    if fed.kind == edit.kind {
+        return fed;
+    }
+    fed.set(Compass, angle(edit.get(CompassDegrees), edit.get(CompassMinutes)));
+    fed.set(NewCompass, angle(edit.get(NewCompassDegrees), edit.get(NewCompassMinutes)));
+    let clino = angle(edit.get(ClinoDegrees), edit.get(ClinoMinutes));
+    fed.set(Clino, if edit.get(Sign) == 1 { -clino } else { clino });
+    let clino = angle(edit.get(NewClinoDegrees), edit.get(NewClinoMinutes));
+    fed.set(NewClino, if edit.get(NewSign) == 1 { -clino } else { clino });
+    fed
+}
+
+/// Three minutes are five hundredths of a degree. One minute more is 1 2/3 hundredths,
+/// and nearest to 2; two more are 3 1/3, and nearest to 3.
+fn angle(degrees: i64, minutes: i64) -> i64 {
+    let rest = [0, 2, 3][(minutes % 3) as usize];
+    100 * degrees + 5 * (minutes / 3) + rest
+}
+
 impl Leg {
     fn quoted(edit: &Request) -> Leg {
         let [number, from, to] = [R, From, To].map(|field| edit.get(field));
@@ -96,7 +124,7 @@ impl Plain {
     /// Plays an edit if it succeeds, and says whether it did. "If not, the edit
     /// is stale and the lists stay."
     pub fn play(&mut self, edit: &Request) -> bool {
-        self.try_edit(edit).is_some()
+        self.try_edit(&fed(edit)).is_some()
     }
 
     fn try_edit(&mut self, edit: &Request) -> Option<()> {
@@ -135,6 +163,7 @@ impl Plain {
                 self.lists[q as usize].insert(0, leg);
             }
             Kind::Step | Kind::Look | Kind::View => return None,
+            Kind::AddInMinutes | Kind::CorrectInMinutes => return None,
         }
         Some(())
     }
@@ -420,7 +449,8 @@ impl Watch {
             format!("decided as {claimed}, the plain book says {found}: {}", heard.opener)
         })?;
         heard.decided = Some(succeeds);
-        self.adds += i64::from(granted && heard.opener.kind == Kind::Add);
+        let adds = matches!(heard.opener.kind, Kind::Add | Kind::AddInMinutes);
+        self.adds += i64::from(granted && adds);
         self.strikes += i64::from(granted && heard.opener.kind == Kind::Strike);
         self.check_leg(heard.opener.get(R))?;
         // "the counts of all passages in the plain book, each the length of its

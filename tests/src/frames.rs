@@ -5,17 +5,26 @@ use std::fmt;
 
 /// The named fields of all frames. `Distance`, `Compass`, `Clino` are M (of
 /// Correct: the old M), the `New` ones are Correct's new M. `N` and the words
-/// after it are a view's.
+/// after it are a view's. Degrees, minutes and signs are those of M in minutes.
 #[rustfmt::skip]
 #[derive(Clone, Copy, Debug, PartialEq, Eq)]
 pub enum Field {
     Team, P, Q, F, R, S, H, C, D, From, To,
     Distance, Compass, Clino, NewDistance, NewCompass, NewClino, Looked,
     N, Word1, Word2, Word3, Word4, Word5, Word6,
+    CompassDegrees, CompassMinutes, Sign, ClinoDegrees, ClinoMinutes,
+    NewCompassDegrees, NewCompassMinutes, NewSign, NewClinoDegrees, NewClinoMinutes,
 }
 use Field::*;
 
-const FIELDS: usize = 25;
+const FIELDS: usize = 35;
+
+/// "compass and clino are a degree and a minute field each, the clino with a sign
+/// field (0 up, 1 down) before them"
+pub const ANGLES: [Field; 5] = [CompassDegrees, CompassMinutes, Sign, ClinoDegrees, ClinoMinutes];
+#[rustfmt::skip]
+pub const NEW_ANGLES: [Field; 5] =
+    [NewCompassDegrees, NewCompassMinutes, NewSign, NewClinoDegrees, NewClinoMinutes];
 
 /// The words that a view names, in the order named.
 pub const NAMED: [Field; 6] = [Word1, Word2, Word3, Word4, Word5, Word6];
@@ -65,13 +74,18 @@ pub enum Kind {
     Step = 5,
     Look = 6,
     View = 7,
+    AddInMinutes = 17,
+    CorrectInMinutes = 18,
 }
 
 impl Kind {
     #[rustfmt::skip]
-    const ALL: [Kind; 7] = [
+    const ALL: [Kind; 9] = [
         Kind::Add, Kind::Correct, Kind::Strike, Kind::Move, Kind::Step, Kind::Look, Kind::View,
+        Kind::AddInMinutes, Kind::CorrectInMinutes,
     ];
+
+    pub const IN_MINUTES: [Kind; 2] = [Kind::AddInMinutes, Kind::CorrectInMinutes];
 
     fn of(number: i64) -> Option<Kind> {
         Kind::ALL.into_iter().find(|kind| *kind as i64 == number)
@@ -95,6 +109,19 @@ impl Kind {
             Kind::Look => &[Looked],
             // "kind 7, names a team, a count n of 1 to 6 and n distinct words"
             Kind::View => &[Team, N, Word1, Word2, Word3, Word4, Word5, Word6],
+            // "Add and Correct get second kinds, 17 (length 30) and 18 (40)"
+            #[rustfmt::skip]
+            Kind::AddInMinutes => &[
+                Team, P, R, H, C, From, To,
+                Distance, CompassDegrees, CompassMinutes, Sign, ClinoDegrees, ClinoMinutes,
+            ],
+            #[rustfmt::skip]
+            Kind::CorrectInMinutes => &[
+                Team, P, R, From, To,
+                Distance, CompassDegrees, CompassMinutes, Sign, ClinoDegrees, ClinoMinutes,
+                NewDistance, NewCompassDegrees, NewCompassMinutes, NewSign, NewClinoDegrees,
+                NewClinoMinutes,
+            ],
         }
     }
 
@@ -111,6 +138,27 @@ impl Kind {
     pub fn opens_a_ticket(self) -> bool {
         !matches!(self, Kind::Step | Kind::Look)
     }
+
+    /// The kind whose angles are hundredths, of one whose angles are minutes.
+    pub fn in_hundredths(self) -> Option<Kind> {
+        match self {
+            Kind::AddInMinutes => Some(Kind::Add),
+            Kind::CorrectInMinutes => Some(Kind::Correct),
+            _ => None,
+        }
+    }
+}
+
+/// "The angle is rounded to the nearest hundredth of a degree": from the degrees on,
+/// as long as the next hundredth is nearer. In a sixtieth of a hundredth, a hundredth
+/// is 60 and a minute 100.
+pub fn nearest_hundredth(degrees: i64, minutes: i64) -> i64 {
+    let off = |hundredth: i64| (60 * hundredth - 100 * (60 * degrees + minutes)).abs();
+    let mut hundredth = 100 * degrees;
+    while off(hundredth + 1) < off(hundredth) {
+        hundredth += 1;
+    }
+    hundredth
 }
 
 /// A frame of a known kind and of the right length, its fields read.
@@ -184,6 +232,27 @@ impl Request {
         Measure { distance, compass, clino }
     }
 
+    /// "The edit then behaves as one in hundredths": that one. Other requests are
+    /// themselves.
+    pub fn in_hundredths(&self) -> Request {
+        self.rounded_by(nearest_hundredth)
+    }
+
+    /// The edit in hundredths by some rule for degrees and minutes. "Up and down zero
+    /// mean the same."
+    pub fn rounded_by(&self, rule: fn(i64, i64) -> i64) -> Request {
+        let Some(kind) = self.kind.in_hundredths() else { return *self };
+        let mut edit = Request { kind, ..*self };
+        for (angles, compass, clino) in
+            [(ANGLES, Compass, Clino), (NEW_ANGLES, NewCompass, NewClino)]
+        {
+            let [degrees, minutes, sign, up, up_minutes] = angles.map(|field| self.get(field));
+            edit.set(compass, rule(degrees, minutes));
+            edit.set(clino, rule(up, up_minutes) * if sign == 0 { 1 } else { -1 });
+        }
+        edit
+    }
+
     /// Least and greatest of a field, as refusals 6 and 10 have them.
     pub fn limits(&self, field: Field) -> (i64, i64) {
         match field {
@@ -193,7 +262,7 @@ impl Request {
             // "f, s, h 0 to 1,344"
             F | S | H => (0, LEGS),
             // "c in Add and d 0 to 1,343; other c 1 to 1,344"
-            C if self.kind == Kind::Add => (0, LEGS - 1),
+            C if matches!(self.kind, Kind::Add | Kind::AddInMinutes) => (0, LEGS - 1),
             C => (1, LEGS),
             D => (0, LEGS - 1),
             From | To => (0, 65_535),
@@ -205,15 +274,29 @@ impl Request {
             // "an n other than (length - 6) / 2 or a word above 4,095 counts under 10"
             N => (self.names as i64, self.names as i64),
             Word1 | Word2 | Word3 | Word4 | Word5 | Word6 => (0, WORDS - 1),
+            // "Minutes are 0 to 59, degrees up to 359 and 90; over 90 degrees 0
+            // minutes, or another sign, is out of range, under 10."
+            CompassDegrees | NewCompassDegrees => (0, 359),
+            ClinoDegrees | NewClinoDegrees => (0, 90),
+            ClinoMinutes if self.get(ClinoDegrees) == 90 => (0, 0),
+            NewClinoMinutes if self.get(NewClinoDegrees) == 90 => (0, 0),
+            CompassMinutes | ClinoMinutes | NewCompassMinutes | NewClinoMinutes => (0, 59),
+            Sign | NewSign => (0, 1),
         }
+    }
+
+    /// The fields that are out of range.
+    pub fn beyond(&self) -> Vec<Field> {
+        let beyond = |field: &Field| {
+            let (least, greatest) = self.limits(*field);
+            !(least..=greatest).contains(&self.get(*field))
+        };
+        self.form().iter().copied().filter(beyond).collect()
     }
 
     /// "10. A field is out of range".
     pub fn out_of_range(&self) -> bool {
-        self.form().iter().any(|field| {
-            let (least, greatest) = self.limits(*field);
-            !(least..=greatest).contains(&self.get(*field))
-        })
+        !self.beyond().is_empty()
     }
 
     /// "11. from equals to, q equals p, or a leg number other than 0 is named
@@ -260,7 +343,7 @@ pub fn parse(frame: &[u8]) -> Result<Request, i64> {
     if frame.len() < 4 || frame.len() > 64 || little(&frame[..2]) != frame.len() as i64 - 2 {
         return Err(3);
     }
-    // "4. The kind isn't 1 to 6", and now 7.
+    // "4. The kind isn't 1 to 6", and now 7, 17 and 18.
     let kind = Kind::of(little(&frame[2..4])).ok_or(4)?;
     // "5. The length isn't that of the kind."
     if !kind.has_length(frame.len() - 2) {
@@ -405,11 +488,13 @@ impl fmt::Display for Request {
     fn fmt(&self, f: &mut fmt::Formatter) -> fmt::Result {
         write!(f, "{:?}:", self.kind)?;
         for field in self.form() {
-            let name = format!("{field:?}")
-                .to_lowercase()
-                .replace("new", "new ")
-                .replace("looked", "word");
-            write!(f, " {name} {},", self.get(*field))?;
+            let name = format!("{field:?}").replace("Looked", "Word");
+            let apart = |letter: char| format!(" {}", letter.to_lowercase());
+            for letter in name.chars() {
+                let upper = letter.is_uppercase();
+                write!(f, "{}", if upper { apart(letter) } else { letter.to_string() })?;
+            }
+            write!(f, " {},", self.get(*field))?;
         }
         write!(f, " in a frame of {} bytes", self.bytes().len())
     }

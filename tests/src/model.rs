@@ -1,6 +1,6 @@
 //! The second model: "Edits", "Tickets and steps", "Frames refused, in checking
 //! order" and "The program survey", and of document 02 "Words seen together", "Who
-//! holds the word" and "Plumb legs".
+//! holds the word", "Plumb legs" and "Old instruments in minutes".
 
 use crate::frames::{any_twice, next, parse, Answer, Field::*, Kind, Next, Request};
 use crate::layout::*;
@@ -17,8 +17,9 @@ pub struct Target {
 }
 
 /// The targets of an edit, in the order in which "Edits" lists them, or those of
-/// a view, in the order named.
-pub fn listed_targets(edit: &Request) -> Vec<Target> {
+/// a view, in the order named. An edit in minutes has those of the one in hundredths.
+pub fn listed_targets(request: &Request) -> Vec<Target> {
+    let edit = request.in_hundredths();
     let target = |word: i64, quoted: i64, new: i64| Target {
         word,
         quoted: Word::Value(quoted),
@@ -68,6 +69,7 @@ pub fn listed_targets(edit: &Request) -> Vec<Target> {
             target(place_word(r), place_in(p), place_in(q)),
         ],
         Kind::View => edit.named().iter().map(|word| target(*word, 0, *word)).collect(),
+        Kind::AddInMinutes | Kind::CorrectInMinutes => Vec::new(),
         Kind::Step | Kind::Look => Vec::new(),
     }
 }

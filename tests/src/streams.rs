@@ -1,7 +1,10 @@
 //! Seeded streams of frames: contention, a full book, fuzz, damage, endings.
 
 use crate::demand3::{sweep, Plain, Watch};
-use crate::frames::{framed, split, Answer, Field, Field::*, Kind, Request, NAMED};
+use crate::frames::{
+    framed, nearest_hundredth, split, Answer, Field, Field::*, Kind, Request, ANGLES, NAMED,
+    NEW_ANGLES,
+};
 use crate::layout::*;
 use crate::model::Desk;
 use crate::rounds::{self, Order, ORDERS};
@@ -93,19 +96,64 @@ fn stations(rng: &mut Prng) -> (i64, i64) {
     }
 }
 
-/// A measure; its least and greatest figures come often, and clinos next to them.
+/// A measure; its least and greatest figures come often, and clinos next to them and
+/// to 0. Half of them can be read in minutes.
 fn measure(rng: &mut Prng) -> [i64; 3] {
     let beside = rng.percent(10);
-    [Distance, Compass, Clino].map(|field| {
+    let [distance, compass, clino] = [Distance, Compass, Clino].map(|field| {
         let (least, greatest) = Request::new(Kind::Add, &[]).limits(field);
         let between = rng.between(least, greatest);
         let inward = i64::from(beside && field == Clino);
-        rng.pick(&[least + inward, greatest - inward, between, between, between])
-    })
+        let level = if field == Clino { rng.between(-1, 1) } else { between };
+        rng.pick(&[least + inward, greatest - inward, between, between, level])
+    });
+    if rng.percent(50) {
+        return [distance, compass, clino];
+    }
+    [distance, readable(compass), clino.signum() * readable(clino.abs())]
 }
 
-/// An edit of a team that quotes the lists of a view as they are.
+/// The greatest figure up to this one that an instrument in minutes can give.
+fn readable(figure: i64) -> i64 {
+    (0..=figure).rev().find(|figure| minutes_of(*figure).is_some()).unwrap_or(0)
+}
+
+/// The degrees and minutes that are rounded to this figure, if any are.
+fn minutes_of(figure: i64) -> Option<(i64, i64)> {
+    let (degrees, near) = (figure / 100, figure % 100 * 3 / 5);
+    let fits = |minutes: &i64| *minutes < 60 && nearest_hundredth(degrees, *minutes) == figure;
+    [near, near + 1].into_iter().find(fits).map(|minutes| (degrees, minutes))
+}
+
+/// An Add or Correct said in minutes, if its figures can be.
+fn in_minutes(rng: &mut Prng, edit: &Request) -> Option<Request> {
+    let mut said = *edit;
+    said.kind = match edit.kind {
+        Kind::Add => Kind::AddInMinutes,
+        Kind::Correct => Kind::CorrectInMinutes,
+        _ => return None,
+    };
+    for (angles, measure) in [(ANGLES, edit.measure()), (NEW_ANGLES, edit.new_measure())] {
+        let (degrees, minutes) = minutes_of(measure.compass)?;
+        let (up, up_minutes) = minutes_of(measure.clino.abs())?;
+        let sign = match measure.clino.signum() {
+            0 => rng.below(2),
+            way => i64::from(way < 0),
+        };
+        let values = [degrees, minutes, sign, up, up_minutes];
+        angles.into_iter().zip(values).for_each(|(field, value)| said.set(field, value));
+    }
+    Some(said)
+}
+
+/// An edit of a team that quotes the lists of a view as they are, in either form.
 fn draft(rng: &mut Prng, site: &Site, view: &Plain, team: i64) -> Request {
+    let edit = draft_in_hundredths(rng, site, view, team);
+    let said = if rng.percent(50) { in_minutes(rng, &edit) } else { None };
+    said.unwrap_or(edit)
+}
+
+fn draft_in_hundredths(rng: &mut Prng, site: &Site, view: &Plain, team: i64) -> Request {
     let p = rng.pick(&site.passages);
     let few = view.count(p) < rng.between(1, 5);
     if view.list(p).is_empty() || rng.percent(if few { 70 } else { 25 }) {
@@ -243,8 +291,9 @@ fn a_fair_edit(kind: Kind) -> Request {
 /// Requests of each kind, and views of each length, that aren't refused.
 fn fair_requests() -> Vec<Request> {
     let edits = [Kind::Add, Kind::Correct, Kind::Strike, Kind::Move].map(a_fair_edit);
+    let edits = edits.into_iter().chain(Kind::IN_MINUTES.map(a_fair_edit));
     let views = (1..=6).map(|n| Request::view(0, &[50, 1, 0, 13, 64, 4_094][..n]));
-    edits.into_iter().chain([Request::step(0), Request::look(0)]).chain(views).collect()
+    edits.chain([Request::step(0), Request::look(0)]).chain(views).collect()
 }
 
 /// Changes of a fair request that may make it one to refuse.
@@ -514,6 +563,80 @@ impl Author {
         }
     }
 
+    /// Each field of edits in minutes at and one past each limit, also with clinos
+    /// of 90 degrees, and with stations that agree.
+    fn every_limit_in_minutes(&mut self) {
+        for kind in Kind::IN_MINUTES {
+            let level = a_fair_edit(kind);
+            let mut plumb = level;
+            set(&mut plumb, &[(ClinoDegrees, 90), (NewClinoDegrees, 90)]);
+            let mut down = plumb;
+            set(&mut down, &[(Sign, 1), (NewSign, 1)]);
+            let mut muddled = level;
+            muddled.set(To, level.get(From));
+            for fair in [level, plumb, down, muddled] {
+                for odd in oddities(&fair) {
+                    let mut request = fair;
+                    set(&mut request, &odd);
+                    self.settle(&request);
+                }
+            }
+        }
+    }
+
+    /// Limits; each minute in an angle of a leg that two teams write and quote in
+    /// either form; kinds that there are none of, and other lengths.
+    fn every_minute(&mut self) {
+        self.every_limit_in_minutes();
+        for minute in 0..60 {
+            let angles =
+                [6 * minute % 360, minute, minute % 2, minute * 7 % 90, (minute + 30) % 60];
+            self.two_forms(angles);
+        }
+        for sign in [0, 1] {
+            self.two_forms([359, 59, sign, 0, 0]);
+            self.two_forms([0, 1, sign, 0, 30]);
+            self.two_forms([359, 59, sign, 90, 0]);
+            self.two_forms([0, 0, sign, 89, 59]);
+        }
+        for kind in (8..=19).chain([81, 82]) {
+            for length in [4, 24, 28, 30, 32, 38, 40, 42] {
+                let mut body = a_fair_edit(Kind::CorrectInMinutes).bytes().split_off(4);
+                body.resize(length - 2, 0);
+                self.say(&framed(kind, &body));
+            }
+        }
+    }
+
+    /// A leg added in one form, corrected to another and back with its figures quoted
+    /// in the other form, and struck.
+    fn two_forms(&mut self, angles: [i64; 5]) {
+        let (p, r) = (self.site.passages[0], self.site.legs[0]);
+        for minutes_first in [true, false] {
+            let mut added = add(&mut self.rng, &self.watch.plain, 0, p, r);
+            added.kind = Kind::AddInMinutes;
+            ANGLES.into_iter().zip(angles).for_each(|(field, angle)| added.set(field, angle));
+            let figures = added.in_hundredths();
+            self.settle(if minutes_first { &added } else { &figures });
+            self.say(&Request::look(measure_word(r)).bytes());
+            for (team, minutes) in [(1, !minutes_first), (2, minutes_first)] {
+                let mut corrected = quoting(&self.watch.plain, Kind::CorrectInMinutes, team, p, 0);
+                for fields in [ANGLES, NEW_ANGLES] {
+                    fields.into_iter().zip(angles).for_each(|(field, angle)| {
+                        corrected.set(field, angle);
+                    });
+                }
+                corrected.set(NewDistance, corrected.get(Distance) % 1_000 + 1);
+                let figures = corrected.in_hundredths();
+                self.settle(if minutes { &corrected } else { &figures });
+                self.say(&Request::look(measure_word(r)).bytes());
+            }
+            let mut struck = quoting(&self.watch.plain, Kind::Strike, 3, p, 0);
+            set(&mut struck, &[(Compass, figures.get(Compass)), (Clino, figures.get(Clino))]);
+            self.settle(&struck);
+        }
+    }
+
     /// Two legs that change places between two passages, their moves opposite and
     /// claimed in turn. Where the passages' ranks and numbers rise differently, the
     /// first claim by position is not the first by word number.
@@ -610,13 +733,17 @@ impl Author {
     }
 
     fn other_kind(&mut self, request: &Request) -> Vec<u8> {
-        let kind = self.rng.pick(&[0, 1, 2, 3, 4, 5, 6, 7, 8, 128, 139, 256, 261, 263, 65_535]);
+        let known = self.rng.pick(&[0, 1, 2, 3, 4, 5, 6, 7, 17, 18]);
+        let between = self.rng.between(8, 19);
+        let far = self.rng.pick(&[81, 82, 128, 139, 256, 261, 263, 273, 65_535]);
+        let kind = self.rng.pick(&[known, between, far]);
         framed(kind, &request.bytes()[4..])
     }
 
     fn other_length(&mut self, request: &Request) -> Vec<u8> {
-        let count = self.rng.between(0, 60);
         let mut body = request.bytes().split_off(4);
+        let (any, right) = (self.rng.between(0, 60), body.len() as i64);
+        let count = self.rng.pick(&[any, any, right - 2, right + 2]);
         body.extend(self.rng.bytes(60));
         body.truncate(count as usize);
         framed(request.kind as i64, &body)
@@ -717,6 +844,15 @@ pub fn plumb(seed: u64, frames: i64) -> Vec<u8> {
     author.bytes
 }
 
+/// Edits in minutes at their limits and in either form, then contention.
+pub fn minutes(seed: u64, frames: i64) -> Vec<u8> {
+    let mut author = Author::new(seed);
+    author.every_minute();
+    author.contend(frames);
+    author.sweep();
+    author.bytes
+}
+
 pub fn fuzz(seed: u64, frames: i64) -> Vec<u8> {
     let mut author = Author::new(seed);
     author.fuzz(frames);
@@ -779,7 +915,7 @@ pub fn of_hex(text: &str) -> Vec<u8> {
     text.split_whitespace().map(byte).collect()
 }
 
-/// The stored stream: the whole case, shafts, crossing moves, a strike of f = r,
+/// The stored stream: the whole case, shafts, minutes, crossing moves, a strike of f = r,
 /// contention, fuzz, a sweep, a length field above 62 and a look behind it.
 pub fn stored() -> Vec<u8> {
     let mut author = Author::new(STORED_SEED);
@@ -787,6 +923,7 @@ pub fn stored() -> Vec<u8> {
         author.say(frame);
     }
     author.every_shaft();
+    author.every_minute();
     // Passage 25 goes before 0 by rank, and 31 before 12.
     author.cross(0, 25);
     author.cross(31, 12);

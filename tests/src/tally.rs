@@ -1,6 +1,6 @@
 //! What came how often, and what must have come at all.
 
-use crate::frames::{parse, split, Answer, Field::*, Kind, Request};
+use crate::frames::{parse, split, Answer, Field::*, Kind, Request, ANGLES, NEW_ANGLES};
 use crate::layout::TEAMS;
 use std::collections::BTreeMap;
 
@@ -9,6 +9,8 @@ pub struct Tally {
     pub frames: i64,
     pub streams: i64,
     counts: BTreeMap<String, i64>,
+    /// The form in which each leg's measure was written last, of the stream at hand.
+    written: BTreeMap<i64, &'static str>,
 }
 
 /// Each team's last edit or view, whether it waited, and whether it found a word
@@ -26,12 +28,16 @@ const ANSWERS: [&str; 20] = [
 
 /// What streams with contention must also have shown.
 #[rustfmt::skip]
-const OUTCOMES: [&str; 21] = [
+const OUTCOMES: [&str; 29] = [
     "granted Add", "granted Correct", "granted Move", "granted Strike of newest",
     "granted Strike of oldest", "granted Strike of middle", "granted Strike of only",
     "stale at once", "stale after Found", "granted after waits", "seen 1", "seen 2", "seen 3",
     "seen 4", "seen 5", "seen 6", "seen after waits", "edit waits for edit",
     "edit waits for view", "view waits for edit", "view waits for view",
+    "granted AddInMinutes", "granted CorrectInMinutes",
+    "granted Correct of a leg in minutes", "granted CorrectInMinutes of a leg in hundredths",
+    "granted Strike of a leg in minutes", "granted at down zero",
+    "refused 90 degrees and minutes", "refused angle with equal stations",
 ];
 
 /// Measures of edits with a compass other than 0 at clino 9,000, 8,999 and their
@@ -40,6 +46,9 @@ const OUTCOMES: [&str; 21] = [
 const MEASURED: [&str; 4] = ["Add", "Correct", "Correct to", "Strike"];
 const STEEP: [(i64, &str); 4] =
     [(9_000, "up"), (-9_000, "down"), (8_999, "nearly up"), (-8_999, "nearly down")];
+
+/// Measures in minutes, which must have been granted and refused at 90 degrees.
+const IN_MINUTES: [&str; 3] = ["AddInMinutes", "CorrectInMinutes", "CorrectInMinutes to"];
 
 impl Tally {
     fn one_more(&mut self, name: &str) {
@@ -52,6 +61,7 @@ impl Tally {
 
     pub fn add(&mut self, input: &[u8], output: &[u8]) {
         self.streams += 1;
+        self.written.clear();
         let mut open = BTreeMap::new();
         for (frame, bytes) in split(input).into_iter().zip(split(output)) {
             self.frames += 1;
@@ -60,6 +70,7 @@ impl Tally {
             if let Ok(request) = parse(frame) {
                 if answer == Answer::Refused(10) {
                     self.count_steep("refused", &request);
+                    self.count_angles(&request);
                 }
                 self.count_outcome(&mut open, request, &answer);
             }
@@ -88,6 +99,7 @@ impl Tally {
             (Answer::Granted(_), Some((edit, waited, _))) => {
                 self.one_more(&granted_name(edit));
                 self.count_steep("granted", edit);
+                self.count_forms(edit);
                 if *waited {
                     self.one_more("granted after waits");
                 }
@@ -107,11 +119,52 @@ impl Tally {
     fn count_steep(&mut self, outcome: &str, edit: &Request) {
         let least = if outcome == "refused" { 36_000 } else { 1 };
         let name = format!("{:?}", edit.kind);
+        let edit = edit.in_hundredths();
         for (name, of) in [(name.clone(), edit.measure()), (name + " to", edit.new_measure())] {
             let steep = STEEP.iter().find(|(clino, _)| *clino == of.clino);
             if let Some((_, way)) = steep.filter(|_| of.compass >= least) {
                 self.one_more(&format!("{outcome} {name} {way}"));
             }
+        }
+    }
+
+    /// An edit in minutes refused for one angle field alone.
+    fn count_angles(&mut self, edit: &Request) {
+        let [field] = edit.beyond()[..] else { return };
+        if edit.kind.in_hundredths().is_none() {
+            return;
+        }
+        self.one_more(&format!("refused {:?} by {field:?}", edit.kind));
+        let at_ninety = match field {
+            ClinoMinutes => edit.get(ClinoDegrees) == 90,
+            NewClinoMinutes => edit.get(NewClinoDegrees) == 90,
+            _ => false,
+        };
+        if at_ninety && edit.get(field) < 60 {
+            self.one_more("refused 90 degrees and minutes");
+        }
+        let angle = ANGLES.contains(&field) || NEW_ANGLES.contains(&field);
+        if angle && edit.get(From) == edit.get(To) {
+            self.one_more("refused angle with equal stations");
+        }
+    }
+
+    /// Whether a granted edit quoted a leg's measure in another form than its own.
+    fn count_forms(&mut self, edit: &Request) {
+        let minutes = edit.kind.in_hundredths().is_some();
+        let form = if minutes { "minutes" } else { "hundredths" };
+        let leg = edit.get(R);
+        let meant = edit.in_hundredths().kind;
+        if matches!(meant, Kind::Correct | Kind::Strike) {
+            if let Some(before) = self.written.get(&leg).filter(|before| **before != form) {
+                self.one_more(&format!("granted {:?} of a leg in {before}", edit.kind));
+            }
+        }
+        if matches!(meant, Kind::Add | Kind::Correct) {
+            self.written.insert(leg, form);
+        }
+        if minutes && [Sign, ClinoDegrees, ClinoMinutes].map(|field| edit.get(field)) == [1, 0, 0] {
+            self.one_more("granted at down zero");
         }
     }
 
@@ -137,6 +190,7 @@ impl Tally {
             missing.extend(self.missing(OUTCOMES.map(str::to_string)));
             missing.extend(self.missing((0..TEAMS).map(wait_name)));
             missing.extend(self.missing(steep_names()));
+            missing.extend(self.missing(angle_names()));
         }
         if missing.is_empty() {
             Ok(())
@@ -154,7 +208,8 @@ impl Tally {
 
     /// One line of how edits and views came out.
     pub fn outcomes(&self) -> String {
-        let names = OUTCOMES.map(str::to_string).into_iter().chain(steep_names());
+        let names = OUTCOMES.map(str::to_string).into_iter();
+        let names = names.chain(steep_names()).chain(angle_names());
         let counts = names.map(|name| format!("{name} {}", self.of(&name)));
         counts.collect::<Vec<_>>().join(", ")
     }
@@ -165,6 +220,18 @@ fn steep_names() -> Vec<String> {
     let refused = STEEP[..2].iter().map(|(_, way)| ("refused", *way));
     let ways = granted.chain(refused);
     ways.flat_map(|(outcome, way)| MEASURED.map(|name| format!("{outcome} {name} {way}"))).collect()
+}
+
+/// What must have come of edits in minutes: granted and refused with a compass at 90
+/// degrees, and refused for each angle field alone.
+fn angle_names() -> Vec<String> {
+    let steep = ["granted", "refused"].into_iter().flat_map(|outcome| {
+        let named = move |name| ["up", "down"].map(|way| format!("{outcome} {name} {way}"));
+        IN_MINUTES.into_iter().flat_map(named)
+    });
+    let old = Kind::IN_MINUTES.into_iter().flat_map(|kind| ANGLES.map(|field| (kind, field)));
+    let fields = old.chain(NEW_ANGLES.map(|field| (Kind::CorrectInMinutes, field)));
+    steep.chain(fields.map(|(kind, field)| format!("refused {kind:?} by {field:?}"))).collect()
 }
 
 fn wait_name(holder: i64) -> String {

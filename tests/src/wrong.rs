@@ -1,7 +1,8 @@
 //! Wrong programs for `serve --wrong`: the model with one fault put around it,
 //! so that the comparison can be seen to tell each apart.
 
-use crate::frames::{parse, Answer, Field::*, Kind, Request};
+use crate::frames::{nearest_hundredth, parse, Answer, Field::*, Kind, Request};
+use crate::frames::{ANGLES, NEW_ANGLES};
 use crate::layout::{measure_word, reading, Measure, Reading, Word, NOBODY};
 use crate::model::{listed_targets, targets_by, Desk, Phase, Ticket};
 
@@ -67,9 +68,44 @@ pub enum Fault {
     ScratchOf169,
     /// The check takes a byte less than it needs.
     ScratchOf167,
+    /// Minutes are rounded down.
+    RoundsDown,
+    /// Minutes are rounded up.
+    RoundsUp,
+    /// Minutes are taken for hundredths.
+    MinutesAsHundredths,
+    /// Minutes are taken for two hundredths each.
+    MinutesDoubled,
+    /// Correct quotes its old figures in minutes rounded down, and writes the new ones
+    /// rounded rightly.
+    OldUnrounded,
+    /// Correct writes its new figures in minutes rounded down, and quotes rightly.
+    NewUnrounded,
+    /// The new figures of a Correct in minutes are read as hundredths.
+    NewInHundredths,
+    /// The sign is read after the clino.
+    SignAfterClino,
+    /// Down zero is one hundredth down.
+    DownZeroIsMinusOne,
+    /// Down zero is out of range.
+    DownZeroRefused,
+    /// A minute of 60 is in range.
+    SixtyMinutesPass,
+    /// A sign of 2 is down.
+    SignTwoIsDown,
+    /// A clino of 90 degrees and minutes is in range, and plumb.
+    NinetyAndMinutes,
+    /// Angles in minutes are tested after 11.
+    AnglesAfterStations,
+    /// A plumb leg in minutes keeps its compass.
+    MinutesNotAdjusted,
+    /// Kinds 8 to 16 are refused for their length.
+    KindsBetweenKnown,
+    /// Kinds 17 and 18 of another length are refused for their kind.
+    MinutesUnknownByLength,
 }
 
-pub const FAULTS: [(&str, Fault); 30] = [
+pub const FAULTS: [(&str, Fault); 47] = [
     ("waiting-when-free", Fault::WaitingWhenFree),
     ("gives-back-new", Fault::GivesBackNew),
     ("listing-order", Fault::ListingOrder),
@@ -100,6 +136,23 @@ pub const FAULTS: [(&str, Fault); 30] = [
     ("scratch-1344", Fault::ScratchOf1344),
     ("scratch-169", Fault::ScratchOf169),
     ("scratch-167", Fault::ScratchOf167),
+    ("rounds-down", Fault::RoundsDown),
+    ("rounds-up", Fault::RoundsUp),
+    ("minutes-as-hundredths", Fault::MinutesAsHundredths),
+    ("minutes-doubled", Fault::MinutesDoubled),
+    ("old-unrounded", Fault::OldUnrounded),
+    ("new-unrounded", Fault::NewUnrounded),
+    ("new-in-hundredths", Fault::NewInHundredths),
+    ("sign-after-clino", Fault::SignAfterClino),
+    ("down-zero-is-minus-one", Fault::DownZeroIsMinusOne),
+    ("down-zero-refused", Fault::DownZeroRefused),
+    ("sixty-minutes-pass", Fault::SixtyMinutesPass),
+    ("sign-2-is-down", Fault::SignTwoIsDown),
+    ("ninety-and-minutes", Fault::NinetyAndMinutes),
+    ("angles-after-stations", Fault::AnglesAfterStations),
+    ("minutes-not-adjusted", Fault::MinutesNotAdjusted),
+    ("kinds-between-known", Fault::KindsBetweenKnown),
+    ("minutes-unknown-by-length", Fault::MinutesUnknownByLength),
 ];
 
 /// Faults that no stream can tell: of marks that only lent books have, of readings and
@@ -120,7 +173,7 @@ pub fn named(name: &str) -> Option<Fault> {
 
 /// What a program with this fault answers.
 pub fn answer(fault: Fault, desk: &mut Desk, frame: &[u8]) -> Answer {
-    let Ok(request) = parse(frame) else { return desk.answer(frame) };
+    let Ok(request) = parse(frame) else { return unread(fault, desk.answer(frame), frame) };
     let team = request.team();
     let stepping = request.kind == Kind::Step;
     let own = desk.tickets.get_mut(&team).filter(|ticket| stepping && ticket.well_made());
@@ -133,7 +186,7 @@ pub fn answer(fault: Fault, desk: &mut Desk, frame: &[u8]) -> Answer {
             return instead;
         }
     }
-    let answer = desk.answer(&sent_otherwise(fault, request).bytes());
+    let answer = desk.answer(&read_otherwise(fault, sent_otherwise(fault, request)).bytes());
     let after = desk.tickets.get_mut(&team);
     match (fault, &answer, after) {
         (Fault::ListingOrder, Answer::Standing(_), Some(ticket)) => {
@@ -171,6 +224,95 @@ pub fn answer(fault: Fault, desk: &mut Desk, frame: &[u8]) -> Answer {
     answer
 }
 
+/// The refusal of a frame of another kind or length.
+fn unread(fault: Fault, right: Answer, frame: &[u8]) -> Answer {
+    match (fault, frame.get(2..4), &right) {
+        (Fault::KindsBetweenKnown, Some([8..=16, 0]), Answer::Refused(4)) => Answer::Refused(5),
+        (Fault::MinutesUnknownByLength, Some([17 | 18, 0]), Answer::Refused(5)) => {
+            Answer::Refused(4)
+        }
+        _ => right,
+    }
+}
+
+/// An edit in minutes as a program reads it, in hundredths where another figure comes
+/// out.
+fn read_otherwise(fault: Fault, request: Request) -> Request {
+    if request.kind.in_hundredths().is_none() {
+        return request;
+    }
+    let mut read = request;
+    [ANGLES, NEW_ANGLES].into_iter().for_each(|angles| read_angles(fault, &mut read, angles));
+    if fault == Fault::AnglesAfterStations && read.muddled() {
+        ANGLES.into_iter().chain(NEW_ANGLES).for_each(|field| read.set(field, 0));
+    }
+    if read.out_of_range() {
+        return read;
+    }
+    let down: fn(i64, i64) -> i64 = |degrees, minutes| 100 * degrees + 5 * minutes / 3;
+    let mut rounded = match fault {
+        Fault::RoundsDown | Fault::OldUnrounded | Fault::NewUnrounded => read.rounded_by(down),
+        Fault::RoundsUp => {
+            read.rounded_by(|degrees, minutes| 100 * degrees + (5 * minutes + 2) / 3)
+        }
+        Fault::MinutesAsHundredths => read.rounded_by(|degrees, minutes| 100 * degrees + minutes),
+        Fault::MinutesDoubled => read.rounded_by(|degrees, minutes| 100 * degrees + 2 * minutes),
+        _ => read.rounded_by(nearest_hundredth),
+    };
+    set_figures(fault, &read, &mut rounded);
+    rounded
+}
+
+/// Figures in hundredths that a program gets otherwise than by its rule for the others.
+fn set_figures(fault: Fault, read: &Request, rounded: &mut Request) {
+    let right = read.in_hundredths();
+    match fault {
+        Fault::OldUnrounded => {
+            [NewCompass, NewClino].into_iter().for_each(|at| rounded.set(at, right.get(at)));
+        }
+        Fault::NewUnrounded => {
+            [Compass, Clino].into_iter().for_each(|at| rounded.set(at, right.get(at)));
+        }
+        Fault::NewInHundredths => {
+            rounded.set(NewCompass, read.get(NewCompassDegrees));
+            rounded.set(NewClino, read.get(NewCompassMinutes));
+        }
+        Fault::DownZeroIsMinusOne => {
+            for (sign, clino) in [(Sign, Clino), (NewSign, NewClino)] {
+                if read.get(sign) == 1 && rounded.get(clino) == 0 {
+                    rounded.set(clino, -1);
+                }
+            }
+        }
+        _ => {}
+    }
+}
+
+/// The fields of one measure in minutes as a program takes them.
+fn read_angles(fault: Fault, read: &mut Request, angles: [crate::frames::Field; 5]) {
+    let [degrees, minutes, sign, up, up_minutes] = angles;
+    let sent = angles.map(|field| read.get(field));
+    match fault {
+        Fault::SignAfterClino => {
+            [(up, sent[2]), (up_minutes, sent[3]), (sign, sent[4])]
+                .into_iter()
+                .for_each(|(field, value)| read.set(field, value));
+        }
+        Fault::DownZeroRefused if sent[2..] == [1, 0, 0] => read.set(sign, 2),
+        Fault::SixtyMinutesPass => {
+            for (whole, part) in [(degrees, minutes), (up, up_minutes)] {
+                if read.get(part) == 60 {
+                    read.set(whole, read.get(whole) + 1);
+                    read.set(part, 0);
+                }
+            }
+        }
+        Fault::SignTwoIsDown if sent[2] == 2 => read.set(sign, 1),
+        Fault::NinetyAndMinutes if sent[3] == 90 && sent[4] < 60 => read.set(up_minutes, 0),
+        _ => {}
+    }
+}
+
 /// The request with a plumb leg's compass, where a program takes another for its range.
 fn sent_otherwise(fault: Fault, mut request: Request) -> Request {
     let measures = [(Compass, request.measure()), (NewCompass, request.new_measure())];
@@ -185,7 +327,8 @@ fn sent_otherwise(fault: Fault, mut request: Request) -> Request {
 }
 
 /// Measures in a ticket's targets by another rule for the compass.
-fn write_otherwise(fault: Fault, edit: &Request, ticket: &mut Ticket) {
+fn write_otherwise(fault: Fault, request: &Request, ticket: &mut Ticket) {
+    let edit = request.in_hundredths();
     let written = |measure: Measure, adjusted: bool| {
         let compass = if adjusted { 0 } else { measure.compass };
         Word::Value(Measure { compass, ..measure }.written())
@@ -196,7 +339,9 @@ fn write_otherwise(fault: Fault, edit: &Request, ticket: &mut Ticket) {
         _ => false,
     };
     let (sent, new) = (edit.measure(), edit.new_measure());
-    let rule = matches!(fault, Fault::PlumbUpOnly | Fault::NearlyPlumb);
+    let in_minutes = request.kind.in_hundredths().is_some();
+    let rule = matches!(fault, Fault::PlumbUpOnly | Fault::NearlyPlumb)
+        || (fault == Fault::MinutesNotAdjusted && in_minutes);
     for target in ticket.targets.iter_mut().filter(|t| t.word == measure_word(edit.get(R))) {
         match edit.kind {
             Kind::Add if rule || fault == Fault::AddNotAdjusted => {

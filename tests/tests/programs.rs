@@ -53,6 +53,21 @@ fn wrong_programs_are_told_apart() {
     for fault in ["plumb-up-only", "nearly-plumb", "plumb-range-skipped", "plumb-refused"] {
         told_apart(fault);
     }
+    for fault in ["rounds-down", "rounds-up", "minutes-as-hundredths", "minutes-doubled"] {
+        told_apart(fault);
+    }
+    for fault in ["old-unrounded", "new-unrounded", "new-in-hundredths", "sign-after-clino"] {
+        told_apart(fault);
+    }
+    for fault in ["down-zero-is-minus-one", "down-zero-refused", "sixty-minutes-pass"] {
+        told_apart(fault);
+    }
+    for fault in ["sign-2-is-down", "ninety-and-minutes", "angles-after-stations"] {
+        told_apart(fault);
+    }
+    for fault in ["minutes-not-adjusted", "kinds-between-known", "minutes-unknown-by-length"] {
+        told_apart(fault);
+    }
     for fault in ["add-not-adjusted", "old-not-adjusted", "new-not-adjusted", "strike-not-adjusted"]
     {
         told_apart(fault);

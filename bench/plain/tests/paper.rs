@@ -264,6 +264,234 @@ fn the_compass_field_of_a_plumb_leg_is_in_range() {
     }
 }
 
+/// A measure of distance 5,000 in minutes: the compass, the sign, the clino.
+fn minutes(compass: [u16; 2], sign: u16, clino: [u16; 2]) -> [u16; 7] {
+    [5_000, 0, compass[0], compass[1], sign, clino[0], clino[1]]
+}
+
+/// What is M in hundredths.
+const IN_MINUTES: [u16; 7] = [5_000, 0, 90, 0, 1, 1, 30];
+
+// Leg 1 of passage 0 as above, in minutes.
+
+fn add_minutes(m: [u16; 7]) -> Vec<u8> {
+    frame(&[&[17, 0, 0, 1, 0, 0, 1, 2], &m[..]].concat())
+}
+
+fn correct_minutes(old: [u16; 7], new: [u16; 7]) -> Vec<u8> {
+    frame(&[&[18, 0, 0, 1, 1, 2], &old[..], &new[..]].concat())
+}
+
+/// The word of a measure of distance 5,000, in hundredths.
+fn word(compass: u64, clino: i64) -> Vec<u8> {
+    value(5_000 + (compass << 17) + (((9_000 + clino) as u64) << 33))
+}
+
+#[test]
+fn whole_case_in_minutes() {
+    let input = [
+        vec![
+            0x1E, 0x00, 0x11, 0x00, 0x00, 0x00, 0x00, 0x00, 0x01, 0x00, 0x00, 0x00, 0x00, 0x00,
+            0x01, 0x00, 0x02, 0x00, 0x88, 0x13, 0x00, 0x00, 0x5A, 0x00, 0x00, 0x00, 0x01, 0x00,
+            0x01, 0x00, 0x1E, 0x00,
+        ],
+        step(0).repeat(10),
+        look(66),
+    ];
+    let due = [through(0, 5)[1].clone(), value(MEASURE)];
+    assert_eq!(answers(&input.concat()), due.concat());
+}
+
+#[test]
+fn half_a_degree_down_can_be_said() {
+    check(&[
+        edit(add_minutes(minutes([90, 0], 1, [0, 30])), 0, 5),
+        [look(66), word(9_000, -50)],
+        edit(
+            correct_minutes(minutes([90, 0], 1, [0, 30]), minutes([90, 0], 0, [0, 30])),
+            0,
+            2,
+        ),
+        [look(66), word(9_000, 50)],
+    ]);
+}
+
+#[test]
+fn up_and_down_zero_mean_the_same() {
+    let level = |sign| minutes([12, 30], sign, [0, 0]);
+    for sign in [0, 1] {
+        check(&[
+            edit(add_minutes(level(sign)), 0, 5),
+            [look(66), word(1_250, 0)],
+            edit(correct_minutes(level(1 - sign), level(sign)), 0, 2),
+            edit(correct_measure(measure(1_250, 0), measure(1_250, 0)), 0, 2),
+            edit(correct_minutes(level(sign), level(1 - sign)), 0, 2),
+            [look(66), word(1_250, 0)],
+            edit(strike_measure(measure(1_250, 0)), 0, 5),
+        ]);
+    }
+}
+
+/// The only hundredth nearest to an angle, found among those of its degree and the
+/// next degree's first. Distances are in sixtieths of a hundredth.
+fn nearest(degrees: u16, minutes: u16) -> u64 {
+    let exact = 100 * (60 * degrees as i64 + minutes as i64);
+    let distance = |hundredth: i64| (60 * hundredth - exact).abs();
+    let all = 100 * degrees as i64..=100 * degrees as i64 + 100;
+    let best = all.clone().min_by_key(|&h| distance(h)).unwrap();
+    assert!(distance(best) <= 20);
+    assert_eq!(all.filter(|&h| distance(h) <= 30).count(), 1);
+    best as u64
+}
+
+#[test]
+fn angles_are_rounded_to_the_nearest_hundredth() {
+    // For each of these degrees of compass and clino, a leg for each minute.
+    let mut pairs = Vec::new();
+    let mut newest = 0;
+    for (degrees, steep) in [(0, 0), (1, 89), (180, 45), (359, 7)] {
+        for minute in 0..60 {
+            let other = 59 - minute;
+            let down = minute % 2;
+            let leg = newest + 1;
+            let m = minutes([degrees, minute], down, [steep, other]);
+            let add = frame(&[&[17, 0, 0, leg, newest, newest, 1, 2], &m[..]].concat());
+            let clino = nearest(steep, other) as i64;
+            let signed = if down == 1 { -clino } else { clino };
+            pairs.push(edit(add, 0, 5));
+            pairs.push([look(63 + 3 * leg), word(nearest(degrees, minute), signed)]);
+            newest = leg;
+        }
+    }
+    check(&pairs);
+}
+
+#[test]
+fn an_edit_in_minutes_behaves_as_one_in_hundredths() {
+    let third = minutes([359, 59], 0, [89, 59]);
+    let in_hundredths = measure(35_998, 8_998);
+    check(&[
+        // Whichever form a leg was written in, it is quoted in either.
+        edit(add_minutes(IN_MINUTES), 0, 5),
+        [look(66), value(MEASURE)],
+        edit(correct_measure(M, in_hundredths), 0, 2),
+        edit(correct_minutes(third, IN_MINUTES), 0, 2),
+        [look(66), value(MEASURE)],
+        edit(correct_minutes(IN_MINUTES, third), 0, 2),
+        [look(66), word(35_998, 8_998)],
+        edit(strike_measure(in_hundredths), 0, 5),
+        edit(add_measure(M), 0, 5),
+        edit(correct_minutes(IN_MINUTES, third), 0, 2),
+        // A hundredth that no minute is rounded to differs from those beside it.
+        edit(correct_measure(in_hundredths, measure(1, 8_998)), 0, 2),
+        [
+            correct_minutes(minutes([0, 1], 0, [89, 59]), third),
+            frame(&[128, 2]),
+        ],
+        [step(0), frame(&[129, 1])],
+        [step(0), frame(&[131, 66])],
+        [step(0), stale(66, 3)],
+    ]);
+}
+
+#[test]
+fn plumb_legs_in_minutes_have_no_compass() {
+    for (sign, clino) in [(0, UP), (1, DOWN)] {
+        let shaft = |compass| minutes(compass, sign, [90, 0]);
+        let stored = word(0, clino as i16 as i64);
+        check(&[
+            edit(add_minutes(shaft([180, 0])), 0, 5),
+            [look(66), stored.clone()],
+            edit(correct_minutes(shaft([0, 0]), shaft([359, 59])), 0, 2),
+            [look(66), stored.clone()],
+            edit(correct_measure(measure(1, clino), M), 0, 2),
+            edit(correct_minutes(IN_MINUTES, shaft([7, 7])), 0, 2),
+            [look(66), stored],
+            edit(strike_measure(measure(35_999, clino)), 0, 5),
+        ]);
+        // A minute less is no plumb leg.
+        let steep = minutes([180, 0], sign, [89, 59]);
+        let signed = if sign == 1 { -8_998 } else { 8_998 };
+        check(&[
+            edit(add_minutes(steep), 0, 5),
+            [look(66), word(18_000, signed)],
+        ]);
+    }
+}
+
+#[test]
+fn refusals_in_minutes() {
+    let mut pairs = Vec::new();
+    // Kinds beside these two are none, reserved forms of them neither.
+    let unknown = (8..=16).chain([19, 20, 81, 82]);
+    for kind in unknown {
+        pairs.push([frame(&[kind, 99]), refused(4)]);
+        pairs.push([frame(&[&[kind, 0], &[0; 13][..]].concat()), refused(4)]);
+    }
+    // Another length, whatever the fields.
+    for length in [1, 2, 12, 13, 14, 16, 20, 31] {
+        pairs.push([frame(&vec![17; length]), refused(5)]);
+    }
+    for length in [1, 2, 12, 14, 15, 19, 21, 31] {
+        pairs.push([frame(&vec![18; length]), refused(5)]);
+    }
+    pairs.push([frame(&[17; 15]), refused(6)]);
+    pairs.push([frame(&[18; 20]), refused(6)]);
+    // Each field one past its range, in each of the measures.
+    let out_of_range = [
+        minutes([10, 60], 0, [0, 0]),
+        minutes([360, 0], 0, [0, 0]),
+        minutes([65_535, 0], 0, [0, 0]),
+        minutes([0, 65_535], 0, [0, 0]),
+        minutes([0, 0], 2, [0, 0]),
+        minutes([0, 0], 65_535, [1, 0]),
+        minutes([0, 0], 0, [10, 60]),
+        minutes([0, 0], 0, [90, 1]),
+        minutes([0, 0], 1, [90, 1]),
+        minutes([0, 0], 0, [89, 60]),
+        minutes([0, 0], 0, [91, 0]),
+        minutes([0, 0], 0, [65_535, 0]),
+        minutes([0, 0], 0, [0, 65_535]),
+        // A plumb leg's compass, too.
+        minutes([360, 0], 0, [90, 0]),
+        minutes([0, 60], 1, [90, 0]),
+        // The distance is as ever.
+        [0, 0, 90, 0, 1, 1, 30],
+        [34_465, 1, 90, 0, 1, 1, 30],
+    ];
+    for m in out_of_range {
+        pairs.push([add_minutes(m), refused(10)]);
+        pairs.push([correct_minutes(m, IN_MINUTES), refused(10)]);
+        pairs.push([correct_minutes(IN_MINUTES, m), refused(10)]);
+        // 10 before 11: from is to.
+        let same = frame(&[&[17, 0, 0, 1, 0, 0, 2, 2], &m[..]].concat());
+        pairs.push([same, refused(10)]);
+    }
+    // The other fields are those of kinds 1 and 2.
+    let m = &IN_MINUTES[..];
+    let add = |fields: [u16; 7]| frame(&[&[17], &fields[..], m].concat());
+    let correct = |fields: [u16; 5]| frame(&[&[18], &fields[..], m, m].concat());
+    pairs.extend([
+        [add([0, 32, 1, 0, 0, 1, 2]), refused(10)],
+        [add([0, 0, 0, 0, 0, 1, 2]), refused(10)],
+        [add([0, 0, 1_345, 0, 0, 1, 2]), refused(10)],
+        [add([0, 0, 1, 1_345, 0, 1, 2]), refused(10)],
+        [add([0, 0, 1, 0, 1_344, 1, 2]), refused(10)],
+        [add([0, 0, 1, 0, 0, 2, 2]), refused(11)],
+        [add([0, 0, 1, 1, 0, 1, 2]), refused(11)],
+        [correct([0, 32, 1, 1, 2]), refused(10)],
+        [correct([0, 0, 0, 1, 2]), refused(10)],
+        [correct([0, 0, 1_345, 1, 2]), refused(10)],
+        [correct([0, 0, 1, 2, 2]), refused(11)],
+        // A team with a ticket: 8 before 10 and 11.
+        [add([9, 31, 1_344, 1_343, 1_343, 1, 2]), frame(&[128, 5])],
+        [add([9, 32, 1, 0, 0, 1, 2]), refused(8)],
+        [correct([9, 0, 1, 2, 2]), refused(8)],
+        [correct([8, 31, 1_344, 1, 2]), frame(&[128, 2])],
+    ]);
+    check(&pairs);
+}
+
 #[test]
 fn example_10() {
     check(&[

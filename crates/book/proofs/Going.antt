@@ -37,8 +37,8 @@ use Rattle.frames.specs.declared.EditRead.the-variants as EditRead
 use Rattle.frames.specs.declared.Reading.the-variants as Reading
 use Rattle.frames.specs.declared.ViewRead.{ViewRead}
 use Rattle.frames.specs.Numbers.{Bytes, number16}
-use Rattle.frames.specs.Requests.{headBytes, partAfterKind, stepKind, lookKind, viewKind, kinds, lengthOfKind, isEditKind, isKind, teamIn, editOfKind, viewWordsIn}
-use Rattle.frames.specs.Fields.{editRead, readAs, viewRead, ViewFields, FieldsOf, Whole}
+use Rattle.frames.specs.Requests.{headBytes, partAfterKind, stepKind, lookKind, viewKind, kinds, lengthOfKind, isEditKind, isKind, teamIn, editOfKind, anglesOfKind, viewWordsIn}
+use Rattle.frames.specs.Fields.{readIf, readEdit, readAs, viewRead, ViewFields, FieldsOf, Whole}
 use Rattle.frames.proofs.Headers.{each-row, kind-row, edit-kind, other-kind, fields-of-kind, fields-of-view}
 use Rattle.decoder.proofs.Decoded.{only-allowed}
 use Rattle.calls.proofs.Refusing.{named-many}
@@ -76,8 +76,13 @@ pub look-outside : (words : Words) (word : ℕ) → wordsInBook ≤ word → Ans
 look-outside words word l = ap (λ b. cond b (Answer.Look (lookOf words word)) (Answer.Refused 10)) (sym (le-ltb word wordsInBook l))
 
 -- An edit that is read is allowed.
-pub read-allowed : (edit read : Edit) → editRead edit ≡ EditRead.Is read → editAllowed read ≡ true
-read-allowed edit read e = let (same, allowed) = only-allowed edit read e in subst (λ x. editAllowed x ≡ true) same allowed
+pub read-allowed : (kind : ℕ) (part : Bytes) (read : Edit) → readEdit kind part ≡ EditRead.Is read → editAllowed read ≡ true
+unfolding readEdit
+read-allowed kind part read e = go (anglesOfKind kind part) e
+  where
+    go : (angles : Bool) → readIf angles (editOfKind kind part) ≡ EditRead.Is read → editAllowed read ≡ true
+    go true e = let (same, allowed) = only-allowed (editOfKind kind part) read e in subst (λ x. editAllowed x ≡ true) same allowed
+    go false e = cc
 
 -- The part after the kind has room for a first field.
 long-enough : (kind : ℕ) → isKind kind ≡ true → eqb kind viewKind ≡ false → 1 < lengthOfKind kind - 2
@@ -145,7 +150,7 @@ module _ (words : Words) (ticket : Ticket) (part : Bytes) (kind team : ℕ) wher
   unfolding teamSettled newSettled
   team-opens-view h e = rw (h, ne-eqb kind stepKind (λ step. omega (arith, step, e)), eq-eqb kind viewKind e) refl
 
-  pub team-opens-edit : opensEdit ticket kind ≡ true → _≡_ {A = Settled × Words} (openSettled ticket (editRead (editOfKind kind part)), words) (teamSettled words ticket part kind team)
+  pub team-opens-edit : opensEdit ticket kind ≡ true → _≡_ {A = Settled × Words} (openSettled ticket (readEdit kind part), words) (teamSettled words ticket part kind team)
   unfolding teamSettled newSettled
   team-opens-edit opens =
       let (edit, none) = opens-said ticket kind opens in
@@ -269,12 +274,12 @@ step-by words ticket frame kind team found {swapped = swapped} stands made step 
     ap stepSettled ((λ i. (settles i, swapped)) ∙ swaps) ∙ team-steps words ticket (partAfterKind frame) kind team stands made step
 
 -- An edit that opens a ticket, read from the part after its kind, or refused.
-module _ (words : Words) (ticket : Ticket) (frame : Bytes) (kind team : ℕ) (part : Bytes) (read : EditRead) (opens : opensEdit ticket kind ≡ true) (after : part ≡ partAfterKind frame) (is-read : read ≡ editRead (editOfKind kind part)) where
+module _ (words : Words) (ticket : Ticket) (frame : Bytes) (kind team : ℕ) (part : Bytes) (read : EditRead) (opens : opensEdit ticket kind ≡ true) (after : part ≡ partAfterKind frame) (is-read : read ≡ readEdit kind part) where
   reads-by : _≡_ {A = Settled × Words} (openSettled ticket read, words) (settledBy words ticket frame (Aim.Team kind team))
   unfolding settledBy
   reads-by =
       (λ i. (openSettled ticket (is-read i), words))
-      ∙ (λ i. (openSettled ticket (editRead (editOfKind kind (after i))), words))
+      ∙ (λ i. (openSettled ticket (readEdit kind (after i)), words))
       ∙ team-opens-edit words ticket (partAfterKind frame) kind team opens
 
   pub opened-by : (edit : Edit) (opened : Ticket) → read ≡ EditRead.Is edit → opened ≡ openedTicket edit

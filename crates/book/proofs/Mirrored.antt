@@ -28,8 +28,8 @@ use Rattle.frames.specs.declared.Reading.{Reading}
 use Rattle.frames.specs.declared.Reading.the-variants as Reading
 use Rattle.frames.specs.declared.ViewRead.{ViewRead}
 use Rattle.frames.specs.Numbers.{Bytes, number16}
-use Rattle.frames.specs.Requests.{stepKind, viewKind, editOfKind, viewWordsIn}
-use Rattle.frames.specs.Fields.{editRead, viewRead}
+use Rattle.frames.specs.Requests.{stepKind, viewKind, viewWordsIn}
+use Rattle.frames.specs.Fields.{readEdit, viewRead}
 use Rattle.calls.specs.declared.Settled.{Settled}
 use Rattle.calls.specs.Way.{settledWith, readingSettled, viewSettled, openSettled, newSettled, stepSettled, teamSettled, stepsEdit, opensEdit, TeamFrame}
 use Rattle.book.proofs.Going.{view-kind}
@@ -143,7 +143,7 @@ team-rests words ticket part kind team known no-step no-edit =
         → Rests ticket ((cond {A = Settled × Words} stands
         (cond made (cond step (stepSettled (stepOf words ticket team)) (settledWith ticket (Answer.Refused 8), words)) (settledWith ticket (Answer.Refused 7), words))
         (cond step (settledWith ticket (Answer.Refused 9), words)
-        (cond viewed (viewSettled ticket (viewRead (number16 part 2) (viewWordsIn part))) (openSettled ticket (editRead (editOfKind kind part))), words))) .0 .ticket)
+        (cond viewed (viewSettled ticket (viewRead (number16 part 2) (viewWordsIn part))) (openSettled ticket (readEdit kind part)), words))) .0 .ticket)
     go true true true viewed s k v = inr (view-steps words ticket team (else-view (ticket .phase) s (no-edits k)))
     go true true false viewed s k v = inl refl
     go true false step viewed s k v = inl refl

@@ -7,9 +7,9 @@ ghost use Rattle.words.specs.Words.{wordsInBook, teamCount, mostTargets};
 ghost use Rattle.tickets.specs.Tickets.{isView, wellMade};
 ghost use Rattle.tickets.specs.Steps.{asStep, afterAnswer, AnswerFits, stepOf};
 ghost use Rattle.tickets.specs.Going.{nextOf, wentAnswer};
-ghost use Rattle.frames.specs.Requests.{editOfKind, viewWordsIn};
+ghost use Rattle.frames.specs.Requests.{viewWordsIn};
 ghost use Rattle.frames.specs.Numbers.{number16};
-ghost use Rattle.frames.specs.Fields.{Whole, ViewFields, editRead, viewRead};
+ghost use Rattle.frames.specs.Fields.{Whole, ViewFields, readEdit, viewRead};
 ghost use Rattle.frames.specs.Answers.{longestAnswer, answerFrame, written};
 ghost use Rattle.frames.specs.declared.Answer.the-variants as Answer;
 ghost use Rattle.frames.specs.declared.Header.the-variants as Header;
@@ -97,7 +97,7 @@ fn look_at(book: &[u64], word: u16) -> Answer
 
 fn open_edit(ticket: Ticket, part: &[u8], kind: u16) -> Settled
     requires { ⌜ EditFields (now part) kind ⌝ }
-    ensures { λ r. ⌜ r ≡ openSettled ticket (editRead (editOfKind kind (now (part .entry)))) ⌝ }
+    ensures { λ r. ⌜ r ≡ openSettled ticket (readEdit kind (now (part .entry))) ⌝ }
 {
     let read = decoder::read_edit(kind, part);
     match read {

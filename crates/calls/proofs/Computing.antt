@@ -1,6 +1,7 @@
 -- Every definition of specs/ that a call or survey comes to, opened at once: an example says `unfolding everything` and computes.
 use Rattle.words.specs.Tests.{allHold, someHolds, allOccur, distinct}
 use Rattle.legs.specs.Legs.{measureInRange}
+use Rattle.legs.specs.Minutes.{hundredthsOf, anglesInRange}
 use Rattle.legs.specs.Positions.{positionOf}
 use Rattle.tickets.specs.Tickets.{allWellMade, wellMade}
 use Rattle.tickets.specs.Steps.{swapTried, valueNoted, settled, stepOf}
@@ -9,12 +10,12 @@ use Rattle.edits.specs.Ranges.{editInRange, editRepeats}
 use Rattle.edits.specs.Opened.{insertBy, orderedBy, openedTicket}
 use Rattle.edits.specs.Views.{allInBook, viewInRange, viewRepeats, openedView}
 use Rattle.frames.specs.Numbers.{numbers16, fields64}
-use Rattle.frames.specs.Requests.{lengthFits, addIn, correctIn, strikeIn, moveIn, editOfKind, requestOfKind, requestIn}
+use Rattle.frames.specs.Requests.{lengthFits, addIn, correctIn, strikeIn, moveIn, addInMinutes, correctInMinutes, editOfKind, anglesOfKind, requestOfKind, requestIn}
 use Rattle.frames.specs.Answers.{answerFrame}
 use Rattle.frames.specs.Writing.{requestFrame}
 use Rattle.calls.specs.Call.{refusalChecks, refusalOf, requestDone, doneOf, sentOf, callOf}
 use Rattle.calls.specs.Survey.{surveyFrom, surveyOf}
 
 unfoldable pub everything : Unit {0}
-unfolding allHold someHolds allOccur distinct measureInRange positionOf allWellMade wellMade swapTried valueNoted settled stepOf listedTargets editInRange editRepeats insertBy orderedBy openedTicket allInBook viewInRange viewRepeats openedView numbers16 fields64 lengthFits addIn correctIn strikeIn moveIn editOfKind requestOfKind requestIn answerFrame requestFrame refusalChecks refusalOf requestDone doneOf sentOf callOf surveyFrom surveyOf
+unfolding allHold someHolds allOccur distinct measureInRange positionOf allWellMade wellMade swapTried valueNoted settled stepOf listedTargets editInRange editRepeats insertBy orderedBy openedTicket allInBook viewInRange viewRepeats openedView numbers16 fields64 lengthFits addIn correctIn strikeIn moveIn hundredthsOf anglesInRange addInMinutes correctInMinutes editOfKind anglesOfKind requestOfKind requestIn answerFrame requestFrame refusalChecks refusalOf requestDone doneOf sentOf callOf surveyFrom surveyOf
 everything = tt

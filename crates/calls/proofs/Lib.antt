@@ -9,6 +9,7 @@ pub mod Tables
 pub mod Fitting
 pub mod Hearing
 pub mod Demand1
+pub mod Minutes
 pub mod Demand2
 pub mod SurveyRun
 pub mod StreamRun

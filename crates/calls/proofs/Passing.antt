@@ -15,7 +15,7 @@ use Rattle.frames.specs.Request.{Request, Open, Step, Look, View}
 use Rattle.frames.specs.Numbers.{Bytes, areBytes}
 use Rattle.frames.specs.Requests.{requestIn}
 use Rattle.frames.proofs.Asked.{stations-fit}
-use Rattle.frames.specs.Fields.{fieldOutOfRange, fieldRepeated}
+use Rattle.frames.specs.Fields.{requestOutOfRange, fieldRepeated}
 use Rattle.calls.specs.Call.{refusalOf, teamUnknown, opensOverTicket, stepWithoutTicket}
 use Rattle.calls.proofs.Refusing.{passed, Sized, request-sized, fine-view}
 use Rattle.calls.proofs.Ordered.{Fine}
@@ -39,7 +39,7 @@ module _ (words : Words) (tickets : Tickets) (frame out : Bytes) (bytes : areByt
       of-request (requestIn frame) refl (known .known-team) (known .opens-alone) (known .step-allowed) (known .in-range) (known .named-once) (request-sized known)
     where
       of-request : (request : Request) → requestIn frame ≡ request → teamUnknown request ≡ false → opensOverTicket tickets request ≡ false
-          → stepWithoutTicket tickets request ≡ false → fieldOutOfRange request ≡ false → fieldRepeated request ≡ false → Sized request → Passes tickets request
+          → stepWithoutTicket tickets request ≡ false → requestOutOfRange request ≡ false → fieldRepeated request ≡ false → Sized request → Passes tickets request
       of-request (Open team edit) is known no-ticket ticket in-range once sized =
           (ltb-true team teamCount (not-false _ known), no-ticket, record { allowed = allowed edit (not-false _ in-range) once; stations = stations-fit frame team edit bytes is })
       of-request (Step team) is known no-ticket ticket in-range once sized = (ltb-true team teamCount (not-false _ known), not-false _ ticket)

@@ -19,7 +19,7 @@ use Rattle.edits.specs.Views.{allInBook, viewInRange, viewRepeats, FineView}
 use Rattle.frames.specs.Request.{Request, Open, Step, Look, View}
 use Rattle.frames.specs.Numbers.{Bytes, number16}
 use Rattle.frames.specs.Requests.{lengthField, kindField, headBytes, partAfterKind, stepKind, lookKind, viewKind, lengthOfKind, teamIn, editOfKind, viewWordsIn, requestOfKind, requestIn}
-use Rattle.frames.specs.Fields.{longestFrame, frameTorn, kindUnknown, lengthWrong, ViewFields, FieldsOf, Whole, fieldOutOfRange, fieldRepeated}
+use Rattle.frames.specs.Fields.{longestFrame, frameTorn, kindUnknown, lengthWrong, ViewFields, FieldsOf, Whole, angleOutOfRange, requestOutOfRange, fieldOutOfRange, fieldRepeated}
 use Rattle.frames.proofs.Bytes.{length-numbers16}
 use Rattle.frames.proofs.Headers.{whole}
 use Rattle.calls.specs.Call.{bookLengthWrong, outputShort, teamUnknown, badlyMade, ownTicketBadlyMade, opensOverTicket, stepWithoutTicket, Check, check, firstOf, isReturned, refusalChecks, refusalOf}
@@ -45,7 +45,7 @@ refusalTests words tickets frame out =
     ∷ ownTicketBadlyMade tickets request
     ∷ opensOverTicket tickets request
     ∷ stepWithoutTicket tickets request
-    ∷ fieldOutOfRange request
+    ∷ fieldOutOfRange frame request
     ∷ fieldRepeated request
     ∷ []
 
@@ -91,6 +91,12 @@ none-first first [] e = tt
 none-first first (true ∷ tests) e = absurd (some-given first e)
 none-first first (false ∷ tests) e = (refl, none-first (first + 1) tests e)
 
+second-fails : (first second : Bool) → someHolds (first ∷ second ∷ []) ≡ false → second ≡ false
+unfolding someHolds
+second-fails true second fails = absurd (true≢false fails)
+second-fails false true fails = absurd (true≢false fails)
+second-fails false false fails = refl
+
 -- What is known of a call that is not refused.
 pub record Passed (words : Words) (tickets : Tickets) (frame out : Bytes) : Type 0 where
   pub whole-book : bookLengthWrong words ≡ false
@@ -102,7 +108,7 @@ pub record Passed (words : Words) (tickets : Tickets) (frame out : Bytes) : Type
   pub well-made : ownTicketBadlyMade tickets (requestIn frame) ≡ false
   pub opens-alone : opensOverTicket tickets (requestIn frame) ≡ false
   pub step-allowed : stepWithoutTicket tickets (requestIn frame) ≡ false
-  pub in-range : fieldOutOfRange (requestIn frame) ≡ false
+  pub in-range : requestOutOfRange (requestIn frame) ≡ false
   pub named-once : fieldRepeated (requestIn frame) ≡ false
 
 pub passed : (words : Words) (tickets : Tickets) (frame out : Bytes) → refusalOf words tickets frame out ≡ none → Passed words tickets frame out
@@ -119,7 +125,7 @@ passed words tickets frame out none-given =
       well-made = cc;
       opens-alone = cc;
       step-allowed = cc;
-      in-range = cc;
+      in-range = second-fails (angleOutOfRange frame) (requestOutOfRange (requestIn frame)) ten;
       named-once = cc;
     }
 

@@ -24,9 +24,9 @@ use Rattle.frames.specs.declared.Header.the-variants as Header
 use Rattle.frames.specs.declared.EditRead.the-variants as EditRead
 use Rattle.frames.specs.declared.Reading.the-variants as Reading
 use Rattle.frames.specs.Numbers.{Bytes, number16}
-use Rattle.frames.specs.Requests.{partAfterKind, stepKind, lookKind, viewKind, teamIn, editOfKind, viewWordsIn}
+use Rattle.frames.specs.Requests.{partAfterKind, stepKind, lookKind, viewKind, teamIn, editOfKind, anglesOfKind, viewWordsIn}
 use Rattle.frames.specs.Answers.{answerFrame, longestAnswer, written}
-use Rattle.frames.specs.Fields.{headerOf, editRead, readAs, viewRead}
+use Rattle.frames.specs.Fields.{headerOf, editRead, readEdit, readAs, viewRead}
 use Rattle.frames.proofs.Headers.{refused-tests}
 use Rattle.calls.specs.declared.Aim.{Aim}
 use Rattle.calls.specs.declared.Aim.the-variants as Aim
@@ -82,14 +82,18 @@ look-framed words ticket word = go (ltb word wordsInBook)
     go true = tt
     go false = lit≤ tt
 
-open-framed : (ticket : Ticket) (edit : Edit) → Framed (openSettled ticket (editRead edit) .answer)
-unfolding openSettled editRead
-open-framed ticket edit = go (editInRange edit) (editRepeats edit)
+open-framed : (ticket : Ticket) (kind : ℕ) (part : Bytes) → Framed (openSettled ticket (readEdit kind part) .answer)
+unfolding openSettled editRead readEdit
+open-framed ticket kind part = go (anglesOfKind kind part) (editInRange edit) (editRepeats edit)
   where
-    go : (range repeats : Bool) → Framed (openSettled ticket (cond range (cond repeats (EditRead.Refused 11) (EditRead.Is edit)) (EditRead.Refused 10)) .answer)
-    go true true = lit≤ tt
-    go true false = tt
-    go false repeats = lit≤ tt
+    edit : Edit
+    edit = editOfKind kind part
+
+    go : (angles range repeats : Bool) → Framed (openSettled ticket (cond angles (cond range (cond repeats (EditRead.Refused 11) (EditRead.Is edit)) (EditRead.Refused 10)) (EditRead.Refused 10)) .answer)
+    go true true true = lit≤ tt
+    go true true false = tt
+    go true false repeats = lit≤ tt
+    go false range repeats = lit≤ tt
 
 view-framed : (ticket : Ticket) (n : ℕ) (words : List ℕ) → Framed (viewSettled ticket (viewRead n words) .answer)
 unfolding viewSettled viewRead
@@ -104,9 +108,9 @@ new-framed : (ticket : Ticket) (part : Bytes) (kind : ℕ) → Framed (newSettle
 unfolding newSettled
 new-framed ticket part kind = go (eqb kind viewKind)
   where
-    go : (view : Bool) → Framed ((cond view (viewSettled ticket (viewRead (number16 part 2) (viewWordsIn part))) (openSettled ticket (editRead (editOfKind kind part)))) .answer)
+    go : (view : Bool) → Framed ((cond view (viewSettled ticket (viewRead (number16 part 2) (viewWordsIn part))) (openSettled ticket (readEdit kind part))) .answer)
     go true = view-framed ticket (number16 part 2) (viewWordsIn part)
-    go false = open-framed ticket (editOfKind kind part)
+    go false = open-framed ticket kind part
 
 team-framed : (words : Words) (ticket : Ticket) (part : Bytes) (kind team : ℕ) → Framed (teamSettled words ticket part kind team .0 .answer)
 unfolding teamSettled

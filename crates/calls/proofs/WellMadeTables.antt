@@ -26,8 +26,8 @@ use Rattle.frames.specs.declared.Answer.the-variants as Answer
 use Rattle.frames.specs.declared.EditRead.the-variants as EditRead
 use Rattle.frames.specs.declared.Reading.the-variants as Reading
 use Rattle.frames.specs.Numbers.{Bytes, areBytes, number16}
-use Rattle.frames.specs.Requests.{partAfterKind, stepKind, viewKind, lengthOfKind, editOfKind, viewWordsIn}
-use Rattle.frames.specs.Fields.{editRead, readAs, viewRead, ViewFields, FieldsOf}
+use Rattle.frames.specs.Requests.{partAfterKind, stepKind, viewKind, lengthOfKind, editOfKind, anglesOfKind, viewWordsIn}
+use Rattle.frames.specs.Fields.{editRead, readEdit, readAs, viewRead, ViewFields, FieldsOf}
 use Rattle.frames.proofs.Asked.{edit-stations}
 use Rattle.frames.proofs.Bytes.{first-byte, bytes-after}
 use Rattle.calls.specs.declared.Aim.{Aim}
@@ -110,18 +110,19 @@ step-well-made words ticket team made = elim (well-made-kept words ticket team m
   | inr gone ↦ empty-well-made (stepOf words ticket team .0 .ticket) (ap (λ (t : Ticket). hasTicket (t .phase)) gone)
 ]
 
-open-well-made : (ticket : Ticket) (kind : ℕ) (part : Bytes) → areBytes part ≡ true → SlotWellMade ticket → SlotWellMade (openSettled ticket (editRead (editOfKind kind part)) .ticket)
-unfolding openSettled editRead
-open-well-made ticket kind part bytes sound = go (editInRange edit) (editRepeats edit) refl refl
+open-well-made : (ticket : Ticket) (kind : ℕ) (part : Bytes) → areBytes part ≡ true → SlotWellMade ticket → SlotWellMade (openSettled ticket (readEdit kind part) .ticket)
+unfolding openSettled editRead readEdit
+open-well-made ticket kind part bytes sound = go (anglesOfKind kind part) (editInRange edit) (editRepeats edit) refl refl
   where
     edit : Edit
     edit = editOfKind kind part
 
-    go : (range repeats : Bool) → editInRange edit ≡ range → editRepeats edit ≡ repeats
-        → SlotWellMade (openSettled ticket (cond range (cond repeats (EditRead.Refused 11) (EditRead.Is edit)) (EditRead.Refused 10)) .ticket)
-    go true true r s = sound
-    go true false r s = λ stands. opened-tickets-well-made edit (join (editInRange edit ∷ not (editRepeats edit) ∷ []) (r, (ap not s, tt))) (edit-stations kind part bytes)
-    go false repeats r s = sound
+    go : (angles range repeats : Bool) → editInRange edit ≡ range → editRepeats edit ≡ repeats
+        → SlotWellMade (openSettled ticket (cond angles (cond range (cond repeats (EditRead.Refused 11) (EditRead.Is edit)) (EditRead.Refused 10)) (EditRead.Refused 10)) .ticket)
+    go true true true r s = sound
+    go true true false r s = λ stands. opened-tickets-well-made edit (join (editInRange edit ∷ not (editRepeats edit) ∷ []) (r, (ap not s, tt))) (edit-stations kind part bytes)
+    go true false repeats r s = sound
+    go false range repeats r s = sound
 
 view-well-made : (ticket : Ticket) (part : Bytes) → ViewFields part → SlotWellMade ticket → SlotWellMade (viewSettled ticket (viewRead (number16 part 2) (viewWordsIn part)) .ticket)
 unfolding viewSettled viewRead
@@ -147,7 +148,7 @@ team-well-made words ticket part kind team fields bytes sound = go (hasTicket (t
         → SlotWellMade ((cond {A = Settled × Words} stands
         (cond made (cond step (stepSettled (stepOf words ticket team)) (settledWith ticket (Answer.Refused 8), words)) (settledWith ticket (Answer.Refused 7), words))
         (cond step (settledWith ticket (Answer.Refused 9), words)
-        (cond view (viewSettled ticket (viewRead (number16 part 2) (viewWordsIn part))) (openSettled ticket (editRead (editOfKind kind part))), words))) .0 .ticket)
+        (cond view (viewSettled ticket (viewRead (number16 part 2) (viewWordsIn part))) (openSettled ticket (readEdit kind part)), words))) .0 .ticket)
     go true true true view m f = step-well-made words ticket team m
     go true true false view m f = sound
     go true false step view m f = sound

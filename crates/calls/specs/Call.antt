@@ -88,7 +88,7 @@ refusalChecks words tickets frame out =
     ∷ check 7 (ownTicketBadlyMade tickets request)
     ∷ check 8 (opensOverTicket tickets request)
     ∷ check 9 (stepWithoutTicket tickets request)
-    ∷ check 10 (fieldOutOfRange request)
+    ∷ check 10 (fieldOutOfRange frame request)
     ∷ check 11 (fieldRepeated request)
     ∷ []
 

@@ -7,6 +7,7 @@ pub mod Linearizable
 pub mod Returning
 pub mod Holder
 pub mod Demand1
+pub mod Minutes
 pub mod Demand2
 pub mod Survey
 pub mod Stream

@@ -24,9 +24,9 @@ use Rattle.frames.specs.declared.Reading.{Reading}
 use Rattle.frames.specs.declared.Reading.the-variants as Reading
 use Rattle.frames.specs.declared.ViewRead.{ViewRead}
 use Rattle.frames.specs.Numbers.{Bytes, number16}
-use Rattle.frames.specs.Requests.{partAfterKind, stepKind, lookKind, viewKind, lengthOfKind, isEditKind, isKind, teamIn, editOfKind, viewWordsIn}
+use Rattle.frames.specs.Requests.{partAfterKind, stepKind, lookKind, viewKind, lengthOfKind, isEditKind, isKind, teamIn, viewWordsIn}
 use Rattle.frames.specs.Answers.{longestAnswer}
-use Rattle.frames.specs.Fields.{headerOf, editRead, viewRead, ViewFields, FieldsOf, Whole}
+use Rattle.frames.specs.Fields.{headerOf, readEdit, viewRead, ViewFields, FieldsOf, Whole}
 use Rattle.calls.specs.declared.Aim.{Aim}
 use Rattle.calls.specs.declared.Aim.the-variants as Aim
 use Rattle.calls.specs.declared.Settled.{Settled}
@@ -98,7 +98,7 @@ stepSettled result = (settledWith (result .0 .ticket) (Answer.Step (result .0 .a
 unfoldable pub newSettled : Ticket → Bytes → ℕ → Settled
 newSettled ticket part kind =
     cond (eqb kind viewKind) (viewSettled ticket (viewRead (number16 part 2) (viewWordsIn part)))
-    (openSettled ticket (editRead (editOfKind kind part)))
+    (openSettled ticket (readEdit kind part))
 
 -- What is known of an edit to be opened, which is of an edit's kind and has its fields.
 pub record EditFields (part : Bytes) (kind : ℕ) : Type 0 where

@@ -1,5 +1,5 @@
 -- What the fields of an edit are read as, from the answers of the fields and from what repeats.
-use Prim.Native.Nat.{ℕ, _-_}
+use Prim.Native.Nat.{ℕ, _+_, _-_}
 use mathlib.Core.Path.{_≡_, refl, sym, ap, _∙_}
 use mathlib.Core.List.{List, [], _∷_}
 use mathlib.Core.Bool.{Bool, true, false, not, cond}
@@ -20,17 +20,26 @@ use Rattle.frames.specs.declared.Field.the-variants as Field
 use Rattle.frames.specs.declared.MeasureField.the-variants as MeasureField
 use Rattle.frames.specs.declared.Taken.{Taken}
 use Rattle.frames.specs.declared.TakenField.the-variants as TakenField
+use Rattle.frames.specs.declared.EditRead.{EditRead}
 use Rattle.frames.specs.declared.EditRead.the-variants as EditRead
 use Rattle.frames.specs.Numbers.{Bytes, number16}
-use Rattle.frames.specs.Requests.{stationsAt, measureAt, takenAt, addIn, correctIn, strikeIn, moveIn}
-use Rattle.frames.specs.Fields.{fieldOf, measureFieldOf, takenInRange, takenFieldOf, editRead}
+use Rattle.frames.specs.Requests.{stationsAt, measureAt, takenAt, addWith, correctWith, strikeIn, moveIn}
+use Rattle.frames.specs.Fields.{fieldOf, measureFieldOf, takenInRange, takenFieldOf, measureSize, measureReadAt, anglesFitAt, editRead, readIf, addRead, correctRead}
 use Rattle.frames.proofs.Ranges.{test-alone}
-use Rattle.decoder.proofs.Answered.{field-in, measure-field-in, taken-field-in, taken-fits, fits-taken}
+use Rattle.decoder.proofs.Answered.{chosen, field-in, measure-field-in, taken-field-in, taken-fits, fits-taken}
 
 -- An edit out of range is refused by 10.
 pub refused-10 : (edit : Edit) → (editInRange edit ≡ true → ⊥) → EditRead.Refused 10 ≡ editRead edit
 unfolding editRead
 refused-10 edit out = simp (is-false (editInRange edit) out)
+
+-- So is one whose angles are out of range in minutes.
+pub refused-if : (angles : Bool) (edit : Edit) → (angles ≡ true → editInRange edit ≡ true → ⊥) → EditRead.Refused 10 ≡ readIf angles edit
+refused-if true edit out = refused-10 edit (out refl)
+refused-if false edit out = refl
+
+pub read-if : {read : EditRead} (angles : Bool) (edit : Edit) → angles ≡ true → read ≡ editRead edit → read ≡ readIf angles edit
+read-if angles edit fit is = is ∙ chosen angles (editRead edit) (EditRead.Refused 10) fit
 
 -- One in range in which something repeats is refused by 11,
 pub refused-11 : (edit there : Edit) → edit ≡ there → editInRange there ≡ true → editRepeats edit ≡ true → EditRead.Refused 11 ≡ editRead there
@@ -109,6 +118,15 @@ pub fits-add : (e : Add) → AddFits e → editInRange (Edit.Add e) ≡ true
 unfolding editInRange
 fits-add e fits = join (addTests e) (fits .passage, (fits .leg, (fits .newest, (fits .count, (fits .measure, tt)))))
 
+-- What Add is read as, in minutes or in hundredths.
+pub add-refused : (minutes : Bool) (part : Bytes) → (anglesFitAt minutes part 14 ≡ true → AddFits (addWith (measureReadAt minutes part 14) part) → ⊥) → EditRead.Refused 10 ≡ addRead minutes part
+unfolding addRead
+add-refused minutes part out = refused-if (anglesFitAt minutes part 14) (Edit.Add (addWith (measureReadAt minutes part 14) part)) (λ angles h. out angles (add-fits (addWith (measureReadAt minutes part 14) part) h))
+
+pub add-read : {read : EditRead} (minutes : Bool) (part : Bytes) → anglesFitAt minutes part 14 ≡ true → read ≡ editRead (Edit.Add (addWith (measureReadAt minutes part 14) part)) → read ≡ addRead minutes part
+unfolding addRead
+add-read minutes part angles is = read-if (anglesFitAt minutes part 14) (Edit.Add (addWith (measureReadAt minutes part 14) part)) angles is
+
 pub record CorrectFits (e : Correct) : Type 0 where
   pub passage : passageInRange (e .passage) ≡ true
   pub leg : legNumberInRange (e .leg) ≡ true
@@ -127,6 +145,27 @@ correct-fits e h =
 pub fits-correct : (e : Correct) → CorrectFits e → editInRange (Edit.Correct e) ≡ true
 unfolding editInRange
 fits-correct e fits = join (correctTests e) (fits .passage, (fits .leg, (fits .old, (fits .new, tt))))
+
+-- What Correct is read as, likewise.
+module _ (minutes : Bool) (part : Bytes) where
+  abbrev newPlace : ℕ
+  newPlace = 10 + measureSize minutes
+
+  abbrev correctThere : Correct
+  correctThere = correctWith (measureReadAt minutes part 10) (measureReadAt minutes part newPlace) part
+
+  abbrev correctAngles : List Bool
+  correctAngles = anglesFitAt minutes part 10 ∷ anglesFitAt minutes part newPlace ∷ []
+
+  pub correct-refused : ((anglesFitAt minutes part 10 ≡ true) × (anglesFitAt minutes part newPlace ≡ true) → CorrectFits correctThere → ⊥) → EditRead.Refused 10 ≡ correctRead minutes part
+  unfolding correctRead
+  correct-refused out =
+      refused-if (allHold correctAngles) (Edit.Correct correctThere)
+      (λ angles h. let (old, (new, u)) = split correctAngles angles in out (old, new) (correct-fits correctThere h))
+
+  pub correct-read : {read : EditRead} → anglesFitAt minutes part 10 ≡ true → anglesFitAt minutes part newPlace ≡ true → read ≡ editRead (Edit.Correct correctThere) → read ≡ correctRead minutes part
+  unfolding correctRead
+  correct-read old new is = read-if (allHold correctAngles) (Edit.Correct correctThere) (join correctAngles (old, (new, tt))) is
 
 -- The leg that a strike takes out.
 abbrev pub struck : Strike → Taken
@@ -188,40 +227,38 @@ fits-move e fits =
     join (moveTests e) (fits .passage, (fits .into, (taken .newer, (taken .leg, (taken .older, (taken .count, (fits .newest, (fits .count, tt))))))))
 
 -- Answers that are all in range are those of an edit in range, and their values are its fields.
-pub add-decoded : (part : Bytes) (passage leg newest count : ℕ) (stations : Stations) (measure : Measure)
+pub add-decoded : (part : Bytes) (there : Measure) (passage leg newest count : ℕ) (stations : Stations) (measure : Measure)
     → fieldOf (passageInRange (number16 part 2)) (number16 part 2) ≡ Field.InRange passage
     → fieldOf (legNumberInRange (number16 part 4)) (number16 part 4) ≡ Field.InRange leg
     → fieldOf (legOrNoneInRange (number16 part 6)) (number16 part 6) ≡ Field.InRange newest
     → fieldOf (countBeforeAddInRange (number16 part 8)) (number16 part 8) ≡ Field.InRange count
     → stations ≡ stationsAt part 10
-    → measureFieldOf (measureAt part 14) ≡ MeasureField.InRange measure
-    → (Edit.Add (record { passage = passage; leg = leg; newest = newest; count = count; stations = stations; measure = measure }) ≡ Edit.Add (addIn part)) × (editInRange (Edit.Add (addIn part)) ≡ true)
-unfolding addIn
-add-decoded part passage leg newest count stations measure e1 e2 e3 e4 e5 e6 =
+    → measureFieldOf there ≡ MeasureField.InRange measure
+    → (Edit.Add (record { passage = passage; leg = leg; newest = newest; count = count; stations = stations; measure = measure }) ≡ Edit.Add (addWith there part)) × (editInRange (Edit.Add (addWith there part)) ≡ true)
+add-decoded part there passage leg newest count stations measure e1 e2 e3 e4 e5 e6 =
     let (passage-fits, p) = field-in _ _ passage e1 in
     let (leg-fits, l) = field-in _ _ leg e2 in
     let (newest-fits, n) = field-in _ _ newest e3 in
     let (count-fits, c) = field-in _ _ count e4 in
     let (measure-fits, m) = measure-field-in _ measure e6 in (
       λ i. Edit.Add (record { passage = sym p i; leg = sym l i; newest = sym n i; count = sym c i; stations = e5 i; measure = sym m i }),
-      fits-add (addIn part) (record { passage = passage-fits; leg = leg-fits; newest = newest-fits; count = count-fits; measure = measure-fits }),
+      fits-add (addWith there part) (record { passage = passage-fits; leg = leg-fits; newest = newest-fits; count = count-fits; measure = measure-fits }),
     )
 
-pub correct-decoded : (part : Bytes) (passage leg : ℕ) (stations : Stations) (old new : Measure)
+pub correct-decoded : (part : Bytes) (old-there new-there : Measure) (passage leg : ℕ) (stations : Stations) (old new : Measure)
     → fieldOf (passageInRange (number16 part 2)) (number16 part 2) ≡ Field.InRange passage
     → fieldOf (legNumberInRange (number16 part 4)) (number16 part 4) ≡ Field.InRange leg
     → stations ≡ stationsAt part 6
-    → measureFieldOf (measureAt part 10) ≡ MeasureField.InRange old
-    → measureFieldOf (measureAt part 18) ≡ MeasureField.InRange new
-    → (Edit.Correct (record { passage = passage; leg = leg; stations = stations; old = old; new = new }) ≡ Edit.Correct (correctIn part)) × (editInRange (Edit.Correct (correctIn part)) ≡ true)
-unfolding correctIn
-correct-decoded part passage leg stations old new e1 e2 e3 e4 e5 =
+    → measureFieldOf old-there ≡ MeasureField.InRange old
+    → measureFieldOf new-there ≡ MeasureField.InRange new
+    → (Edit.Correct (record { passage = passage; leg = leg; stations = stations; old = old; new = new }) ≡ Edit.Correct (correctWith old-there new-there part)) × (editInRange (Edit.Correct (correctWith old-there new-there part)) ≡ true)
+correct-decoded part old-there new-there passage leg stations old new e1 e2 e3 e4 e5 =
     let (passage-fits, p) = field-in _ _ passage e1 in
     let (leg-fits, l) = field-in _ _ leg e2 in
     let (old-fits, o) = measure-field-in _ old e4 in
     let (new-fits, n) = measure-field-in _ new e5 in (
       λ i. Edit.Correct (record { passage = sym p i; leg = sym l i; stations = e3 i; old = sym o i; new = sym n i }),
-      fits-correct (correctIn part) (record { passage = passage-fits; leg = leg-fits; old = old-fits; new = new-fits }),
+      fits-correct (correctWith old-there new-there part) (record { passage = passage-fits; leg = leg-fits; old = old-fits; new = new-fits }),
     )
 
 pub strike-decoded : (part : Bytes) (passage : ℕ) (taken : Taken) (stations : Stations) (measure : Measure)

@@ -1,14 +1,15 @@
 // One field of a frame's part after the kind: in range, or out of it.
 ghost use mathlib.Core.Path.{_≡_};
-ghost use Prim.Native.Nat.{_+_, _<_};
+ghost use mathlib.Core.Bool.{cond};
+ghost use Prim.Native.Nat.{_+_, _≤_, _<_};
 ghost use lib.ListN.{length};
-ghost use lib.Dec.{leb};
+ghost use lib.Dec.{eqb, leb};
 ghost use Rattle.words.specs.Tests.{within};
 ghost use Rattle.legs.specs.Legs.{longestDistance};
 ghost use Rattle.edits.specs.Ranges.{passageInRange};
 ghost use Rattle.frames.specs.Numbers.{number16, number32, signed16};
-ghost use Rattle.frames.specs.Requests.{stationsAt, measureAt, takenAt};
-ghost use Rattle.frames.specs.Fields.{fieldOf, longFieldOf, clinoFieldOf, measureFieldOf, takenFieldOf};
+ghost use Rattle.frames.specs.Requests.{stationsAt, measureAt, minutesAt, takenAt};
+ghost use Rattle.frames.specs.Fields.{fieldOf, longFieldOf, clinoFieldOf, measureFieldOf, compassMinutesFieldOf, clinoMinutesFieldOf, minutesFieldOf, measureSize, measureFieldAt, takenFieldOf};
 use frames::Field;
 use frames::LongField;
 use frames::MeasureField;
@@ -19,6 +20,7 @@ use frames::numbers::Bits;
 use frames::numbers::read16;
 use frames::numbers::read32;
 use frames::numbers::signed;
+use legs::Angle;
 use legs::Measure;
 use legs::Stations;
 use words::Limits;
@@ -117,6 +119,90 @@ pub fn measure_field(part: &[u8], at: usize) -> MeasureField
         compass: compass,
         clino: clino,
     })
+}
+
+// Degrees and minutes of the compass of an M in minutes, in hundredths of a degree.
+fn compass_in_minutes(part: &[u8], at: usize) -> Field
+    requires { ⌜ at + 7 < length (now part) ⌝ }
+    ensures { λ r. ⌜ r ≡ compassMinutesFieldOf (number16 (now (part .entry)) (at + 4)) (number16 (now (part .entry)) (at + 6)) ⌝ }
+{
+    let Field::InRange(degrees) = field_up_to(part, at + 4, Angle::LAST_DEGREE) else {
+        return Field::OutOfRange;
+    };
+    let Field::InRange(minutes) = field_up_to(part, at + 6, Angle::LAST_MINUTE) else {
+        return Field::OutOfRange;
+    };
+    Field::InRange(legs::hundredths(degrees, minutes))
+}
+
+// The last minute that a clino of so many degrees may have: none goes over 90 degrees 0 minutes.
+fn last_minute(degrees: u16) -> u16
+    ensures { λ r. ⌜ r ≡ cond (eqb degrees 90) 0 59 ⌝ }
+{
+    if degrees == Angle::STEEPEST {
+        return 0;
+    }
+    Angle::LAST_MINUTE
+}
+
+// Sign, degrees and minutes of the clino of an M in minutes, in hundredths of a degree.
+fn clino_in_minutes(part: &[u8], at: usize) -> SignedField
+    requires { ⌜ at + 13 < length (now part) ⌝ }
+    ensures { λ r. ⌜ r ≡ clinoMinutesFieldOf (number16 (now (part .entry)) (at + 8)) (number16 (now (part .entry)) (at + 10)) (number16 (now (part .entry)) (at + 12)) ⌝ }
+{
+    let Field::InRange(sign) = field_up_to(part, at + 8, Angle::DOWN) else {
+        return SignedField::OutOfRange;
+    };
+    let Field::InRange(degrees) = field_up_to(part, at + 10, Angle::STEEPEST) else {
+        return SignedField::OutOfRange;
+    };
+    let Field::InRange(minutes) = field_up_to(part, at + 12, last_minute(degrees)) else {
+        return SignedField::OutOfRange;
+    };
+    let steepness = legs::hundredths(degrees, minutes);
+    SignedField::InRange(legs::signed_by(sign, steepness))
+}
+
+// Distance, compass and clino in minutes: as sent they are in range, or the measure is out of it; then they are rounded.
+fn minutes_field(part: &[u8], at: usize) -> MeasureField
+    requires { ⌜ at + 13 < length (now part) ⌝ }
+    ensures { λ r. ⌜ r ≡ minutesFieldOf (minutesAt (now (part .entry)) at) ⌝ }
+{
+    let LongField::InRange(distance) = distance_field(part, at) else {
+        return MeasureField::OutOfRange;
+    };
+    let Field::InRange(compass) = compass_in_minutes(part, at) else {
+        return MeasureField::OutOfRange;
+    };
+    let SignedField::InRange(clino) = clino_in_minutes(part, at) else {
+        return MeasureField::OutOfRange;
+    };
+    MeasureField::InRange(Measure {
+        distance: distance,
+        compass: compass,
+        clino: clino,
+    })
+}
+
+// The bytes of M, in minutes or in hundredths.
+pub fn measure_size(minutes: bool) -> usize
+    ensures { λ r. ⌜ r ≡ measureSize minutes ⌝ }
+{
+    if minutes {
+        return 14;
+    }
+    8
+}
+
+// M, in minutes or in hundredths.
+pub fn measure_in(minutes: bool, part: &[u8], at: usize) -> MeasureField
+    requires { ⌜ at + measureSize minutes ≤ length (now part) ⌝ }
+    ensures { λ r. ⌜ r ≡ measureFieldAt minutes (now (part .entry)) at ⌝ }
+{
+    if minutes {
+        return minutes_field(part, at);
+    }
+    measure_field(part, at)
 }
 
 // f r s c.

@@ -9,13 +9,15 @@ ghost use Rattle.tickets.specs.Tickets.{padded};
 ghost use Rattle.edits.specs.declared.Edit.the-variants as Edit;
 ghost use Rattle.edits.specs.Views.{allInBook};
 ghost use Rattle.edits.specs.Ranges.{sameLeg, namedTwice};
-ghost use Rattle.frames.specs.Requests.{addKind, correctKind, strikeKind, moveKind, lengthOfKind, isEditKind, addIn, correctIn, strikeIn, moveIn, editOfKind, viewWordsIn};
+ghost use Rattle.frames.specs.Requests.{strikeKind, moveKind, lengthOfKind, isEditKind, strikeIn, moveIn, viewWordsIn};
 ghost use Rattle.frames.specs.Numbers.{number16};
-ghost use Rattle.frames.specs.Fields.{editRead, ViewFields, readAs, viewRead};
+ghost use Rattle.frames.specs.Fields.{measureSize, editRead, addRead, correctRead, readEdit, ViewFields, readAs, viewRead};
 ghost use Rattle.frames.specs.declared.Reading.the-variants as Reading;
 use crate::fields::field_from_one;
 use crate::fields::field_up_to;
 use crate::fields::measure_field;
+use crate::fields::measure_in;
+use crate::fields::measure_size;
 use crate::fields::passage_field;
 use crate::fields::stations_at;
 use crate::fields::taken_field;
@@ -71,10 +73,10 @@ fn named_twice(newer: u16, leg: u16, older: u16, newest: u16) -> bool
     same_leg(older, newest)
 }
 
-// team p r h c from to M.
-fn read_add(part: &[u8]) -> EditRead
-    requires { ⌜ length (now part) ≡ lengthOfKind addKind - 2 ⌝ }
-    ensures { λ r. ⌜ r ≡ editRead (Edit.Add (addIn (now (part .entry)))) ⌝ }
+// team p r h c from to M, which is in minutes or in hundredths.
+fn read_add(minutes: bool, part: &[u8]) -> EditRead
+    requires { ⌜ length (now part) ≡ 14 + measureSize minutes ⌝ }
+    ensures { λ r. ⌜ r ≡ addRead minutes (now (part .entry)) ⌝ }
 {
     let Field::InRange(passage) = passage_field(part, 2) else {
         return EditRead::Refused(Refusal::RANGE);
@@ -89,7 +91,7 @@ fn read_add(part: &[u8]) -> EditRead
         return EditRead::Refused(Refusal::RANGE);
     };
     let stations = stations_at(part, 10);
-    let MeasureField::InRange(measure) = measure_field(part, 14) else {
+    let MeasureField::InRange(measure) = measure_in(minutes, part, 14) else {
         return EditRead::Refused(Refusal::RANGE);
     };
     if stations.from == stations.to {
@@ -108,11 +110,12 @@ fn read_add(part: &[u8]) -> EditRead
     }))
 }
 
-// team p r from to, old M, new M.
-fn read_correct(part: &[u8]) -> EditRead
-    requires { ⌜ length (now part) ≡ lengthOfKind correctKind - 2 ⌝ }
-    ensures { λ r. ⌜ r ≡ editRead (Edit.Correct (correctIn (now (part .entry)))) ⌝ }
+// team p r from to, old M, new M, both in minutes or both in hundredths.
+fn read_correct(minutes: bool, part: &[u8]) -> EditRead
+    requires { ⌜ length (now part) ≡ 10 + 2 * measureSize minutes ⌝ }
+    ensures { λ r. ⌜ r ≡ correctRead minutes (now (part .entry)) ⌝ }
 {
+    let second = 10 + measure_size(minutes);
     let Field::InRange(passage) = passage_field(part, 2) else {
         return EditRead::Refused(Refusal::RANGE);
     };
@@ -120,10 +123,10 @@ fn read_correct(part: &[u8]) -> EditRead
         return EditRead::Refused(Refusal::RANGE);
     };
     let stations = stations_at(part, 6);
-    let MeasureField::InRange(old) = measure_field(part, 10) else {
+    let MeasureField::InRange(old) = measure_in(minutes, part, 10) else {
         return EditRead::Refused(Refusal::RANGE);
     };
-    let MeasureField::InRange(new) = measure_field(part, 18) else {
+    let MeasureField::InRange(new) = measure_in(minutes, part, second) else {
         return EditRead::Refused(Refusal::RANGE);
     };
     if stations.from == stations.to {
@@ -213,11 +216,14 @@ fn read_move(part: &[u8]) -> EditRead
 // The edit of a frame whose kind is an edit's.
 pub fn read_edit(kind: u16, part: &[u8]) -> EditRead
     requires { ⌜ (isEditKind kind ≡ true) × (length (now part) ≡ lengthOfKind kind - 2) ⌝ }
-    ensures { λ r. ⌜ r ≡ editRead (editOfKind kind (now (part .entry))) ⌝ }
+    ensures { λ r. ⌜ r ≡ readEdit kind (now (part .entry)) ⌝ }
 {
     match kind {
-        Kind::ADD => read_add(part),
-        Kind::CORRECT => read_correct(part),
+        Kind::ADD | Kind::ADD_IN_MINUTES => read_add(kind == Kind::ADD_IN_MINUTES, part),
+        Kind::CORRECT | Kind::CORRECT_IN_MINUTES => read_correct(
+            kind == Kind::CORRECT_IN_MINUTES,
+            part,
+        ),
         Kind::STRIKE => read_strike(part),
         _ => read_move(part),
     }

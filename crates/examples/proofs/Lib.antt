@@ -12,3 +12,4 @@ mod RefutedTickets
 mod WaitingAllowed
 mod ExamplesHeard
 mod ExamplesShelves
+mod ExamplesMinutes

@@ -1,26 +1,28 @@
 -- What is asked for is read back from its frame, which 3, 4 and 5 do not refuse; and what is read from bytes has stations of 16 bits.
 use Prim.Native.Nat.{ℕ, _+_, _*_, _-_, _/_, _%_, _<_, _≤_}
 use mathlib.Core.Path.{_≡_, refl, ap, subst, _∙_, sym}
-use mathlib.Core.List.{List, [], _∷_, map}
+use mathlib.Core.List.{List, [], _∷_, _++_, map}
 use mathlib.Core.Bool.{Bool, true, false, cond}
 use native.Mathlib.Omega.{arith}
-use borrow.Author.Tests.{ltb-true, leb-true, eq-eqb, le-leb, le-ltb}
+use borrow.Author.Tests.{ltb-true, leb-true, eq-eqb, lt-ltb, le-leb, le-ltb}
 use lib.Dec.{eqb, leb, ltb}
 use lib.ListN.{length}
 use lib.IntN.{ℤ, pos, negsuc}
 use Rattle.words.specs.Tests.{allHold, someHolds}
-use Rattle.words.proofs.Tests.{AllTrue, split, join}
+use Rattle.words.proofs.Tests.{AllTrue, split, join, last-test}
 use Rattle.legs.specs.declared.Stations.{Stations}
 use Rattle.legs.specs.declared.Measure.{Measure}
 use Rattle.legs.specs.Legs.{lastStation}
+use Rattle.legs.specs.Minutes.{Minutes, anglesInRange, rounded}
 use Rattle.edits.specs.declared.Edit.{Edit}
 use Rattle.edits.specs.declared.Edit.the-variants as Edit
 use Rattle.edits.specs.Ranges.{stationsInRange, editStationsInRange}
 use Rattle.frames.specs.Request.{Request, Open, Step, Look, View}
-use Rattle.frames.specs.Numbers.{Bytes, areBytes, number16, numbers16, signedOf, fits16}
-use Rattle.frames.specs.Requests.{lengthField, kindField, partAfterKind, teamIn, addKind, correctKind, strikeKind, stepKind, lookKind, viewKind, viewWordsIn, stationsAt, measureAt, addIn, correctIn, strikeIn, moveIn, editOfKind, requestOfKind, requestIn, lengthFits, StationsFit}
+use Rattle.frames.specs.Numbers.{Bytes, areBytes, bytes32, number16, numbers16, signedOf, fits16}
+use Rattle.frames.specs.Requests.{lengthField, kindField, partAfterKind, teamIn, addKind, correctKind, strikeKind, stepKind, lookKind, viewKind, addMinutesKind, correctMinutesKind, viewWordsIn, stationsAt, measureAt, minutesAt, addIn, correctIn, strikeIn, moveIn, addInMinutes, correctInMinutes, editOfKind, anglesOfKind, requestOfKind, requestIn, lengthFits, StationsFit}
 use Rattle.frames.specs.Fields.{headerOf}
 use Rattle.frames.specs.Writing.{bitsOf, fields16, measureBytes, editNumbers, editMeasures, signedFits, measureFits, requestFrame, RequestsReadBack, RequestFramesWhole}
+use Rattle.frames.specs.Minutes.{MinutesEdit, AddInMinutes, CorrectInMinutes, roundedEdit, anglesOf, minutesBytes, minutesOfEdit, minutesFrame, minutesFit, allMinutesBytes, MinutesReadBack, MinutesFramesWhole, MinutesFramesAreBytes}
 use Rattle.frames.proofs.Bytes.{back16, back32, bytes-after, numbers-fit, numbers-further16, numbers-back16, length-fields16}
 use Rattle.frames.proofs.Headers.{not-torn, length-due, header-kind, view-even}
 
@@ -113,6 +115,86 @@ requests-read-back (View team n words) h =
     let (t, (many, rest)) = split (map fits16 (team ∷ n ∷ words)) h in
     λ i. View (number-back team t i) (number-back n many i) (words-back team n words rest i)
 
+-- M in minutes, likewise.
+minutes-back : (m : Minutes) → minutesFit m ≡ true → minutesAt (minutesBytes m) 0 ≡ m
+minutes-back m h =
+    let (distance, (c-degrees, (c-minutes, (sign, (degrees, (minutes, u)))))) = split (ltb (m .distance) 4294967296 ∷ map fits16 (anglesOf m)) h in
+    λ i. record {
+      distance = back32 (m .distance) (ltb-true (m .distance) 4294967296 distance) i;
+      compassDegrees = number-back (m .compassDegrees) c-degrees i;
+      compassMinutes = number-back (m .compassMinutes) c-minutes i;
+      sign = number-back (m .sign) sign i;
+      clinoDegrees = number-back (m .clinoDegrees) degrees i;
+      clinoMinutes = number-back (m .clinoMinutes) minutes i;
+    }
+
+pub minutes-read-back : MinutesReadBack
+unfolding requestIn requestOfKind editOfKind minutesFrame addInMinutes correctInMinutes anglesOfKind allHold
+minutes-read-back team (AddInMinutes passage leg newest count stations m) h =
+    let edit = AddInMinutes passage leg newest count stations m in
+    let (n, (ms, u)) = split (allHold (map fits16 (team ∷ editNumbers (roundedEdit edit))) ∷ allHold (map minutesFit (minutesOfEdit edit)) ∷ []) h in
+    let (t, (passage-fits, (leg-fits, (newest-fits, (count-fits, (from, (to, v))))))) = split (map fits16 (team ∷ editNumbers (roundedEdit edit))) n in
+    let (fits, w) = split (map minutesFit (minutesOfEdit edit)) ms in
+    let back = minutes-back m fits in (
+      λ i. Open (number-back team t i) (Edit.Add (record {
+        passage = number-back passage passage-fits i;
+        leg = number-back leg leg-fits i;
+        newest = number-back newest newest-fits i;
+        count = number-back count count-fits i;
+        stations = stations-back stations from to i;
+        measure = rounded (back i);
+      })),
+      ap anglesInRange back ∙ sym (last-test (anglesInRange m)),
+    )
+minutes-read-back team (CorrectInMinutes passage leg stations old new) h =
+    let edit = CorrectInMinutes passage leg stations old new in
+    let (n, (ms, u)) = split (allHold (map fits16 (team ∷ editNumbers (roundedEdit edit))) ∷ allHold (map minutesFit (minutesOfEdit edit)) ∷ []) h in
+    let (t, (passage-fits, (leg-fits, (from, (to, v))))) = split (map fits16 (team ∷ editNumbers (roundedEdit edit))) n in
+    let (old-fits, (new-fits, w)) = split (map minutesFit (minutesOfEdit edit)) ms in
+    let old-back = minutes-back old old-fits in
+    let new-back = minutes-back new new-fits in (
+      λ i. Open (number-back team t i) (Edit.Correct (record {
+        passage = number-back passage passage-fits i;
+        leg = number-back leg leg-fits i;
+        stations = stations-back stations from to i;
+        old = rounded (old-back i);
+        new = rounded (new-back i);
+      })),
+      λ i. allHold (anglesInRange (old-back i) ∷ anglesInRange (new-back i) ∷ []),
+    )
+
+pub minutes-frames-whole : MinutesFramesWhole
+unfolding headerOf minutesFrame someHolds allHold lengthFits
+minutes-frames-whole team (AddInMinutes passage leg newest count stations m) = refl
+minutes-frames-whole team (CorrectInMinutes passage leg stations old new) = refl
+
+-- A byte before bytes; the bytes of fields, and of M in minutes, before bytes.
+byte-and : (x : ℕ) (bytes : Bytes) → areBytes bytes ≡ true → areBytes (x % 256 ∷ bytes) ≡ true
+unfolding areBytes
+byte-and x bytes h = ap (λ (small : Bool). cond small (areBytes bytes) false) (lt-ltb (x % 256) 256 (omega arith)) ∙ h
+
+fields-and : (numbers : List ℕ) (bytes : Bytes) → areBytes bytes ≡ true → areBytes (fields16 numbers ++ bytes) ≡ true
+fields-and [] bytes h = h
+fields-and (number ∷ numbers) bytes h = byte-and number _ (byte-and (number / 256) _ (fields-and numbers bytes h))
+
+long-and : (x : ℕ) (bytes : Bytes) → areBytes bytes ≡ true → areBytes (bytes32 x ++ bytes) ≡ true
+long-and x bytes h = byte-and x _ (byte-and (x / 256) _ (byte-and (x / 65536) _ (byte-and (x / 65536 / 256) _ h)))
+
+-- The fields of each M follow its distance, and then the next M.
+all-minutes-bytes : (ms : List Minutes) → areBytes (allMinutesBytes ms) ≡ true
+unfolding areBytes
+all-minutes-bytes [] = refl
+all-minutes-bytes (m ∷ ms) = long-and (m .distance) (fields16 (anglesOf m) ++ allMinutesBytes ms) (fields-and (anglesOf m) (allMinutesBytes ms) (all-minutes-bytes ms))
+
+pub minutes-frames-are-bytes : MinutesFramesAreBytes
+unfolding minutesFrame
+minutes-frames-are-bytes team (AddInMinutes passage leg newest count stations m) =
+    let edit = AddInMinutes passage leg newest count stations m in
+    fields-and (30 ∷ addMinutesKind ∷ team ∷ editNumbers (roundedEdit edit)) (allMinutesBytes (minutesOfEdit edit)) (all-minutes-bytes (minutesOfEdit edit))
+minutes-frames-are-bytes team (CorrectInMinutes passage leg stations old new) =
+    let edit = CorrectInMinutes passage leg stations old new in
+    fields-and (40 ∷ correctMinutesKind ∷ team ∷ editNumbers (roundedEdit edit)) (allMinutesBytes (minutesOfEdit edit)) (all-minutes-bytes (minutesOfEdit edit))
+
 pub request-frames-whole : RequestFramesWhole
 unfolding headerOf requestFrame someHolds allHold lengthFits
 request-frames-whole (Open team (Edit.Add e)) h = refl
@@ -141,11 +223,13 @@ edit-cond true x y p q = p
 edit-cond false x y p q = q
 
 pub edit-stations : (kind : ℕ) (part : Bytes) → areBytes part ≡ true → editStationsInRange (editOfKind kind part) ≡ true
-unfolding editOfKind addIn correctIn strikeIn moveIn
+unfolding editOfKind addIn correctIn strikeIn moveIn addInMinutes correctInMinutes
 edit-stations kind part h =
     edit-cond (eqb kind addKind) (Edit.Add (addIn part)) _ (stations-fit-at part 10 h)
     (edit-cond (eqb kind correctKind) (Edit.Correct (correctIn part)) _ (stations-fit-at part 6 h)
-    (edit-cond (eqb kind strikeKind) (Edit.Strike (strikeIn part)) (Edit.Move (moveIn part)) (stations-fit-at part 12 h) (stations-fit-at part 18 h)))
+    (edit-cond (eqb kind strikeKind) (Edit.Strike (strikeIn part)) _ (stations-fit-at part 12 h)
+    (edit-cond (eqb kind addMinutesKind) (Edit.Add (addInMinutes part)) _ (stations-fit-at part 10 h)
+    (edit-cond (eqb kind correctMinutesKind) (Edit.Correct (correctInMinutes part)) (Edit.Move (moveIn part)) (stations-fit-at part 6 h) (stations-fit-at part 18 h)))))
 
 abbrev StationsOf : Request → Type 0
 StationsOf (Open team edit) = editStationsInRange edit ≡ true

@@ -7,7 +7,9 @@ use mathlib.Core.Option.{none, some}
 use lib.IntN.{ℤ, pos, negsuc}
 use lib.ListN.{length, replicate}
 use Rattle.words.specs.Tests.{allHold, someHolds, distinct}
+use Rattle.legs.specs.declared.Measure.{Measure}
 use Rattle.legs.specs.Legs.{measureInRange}
+use Rattle.legs.specs.Minutes.{Minutes, hundredthsOf}
 use Rattle.tickets.specs.declared.StepAnswer.the-variants.{Waiting, Granted, Stale, Seen}
 use Rattle.tickets.specs.declared.Values.{Values}
 use Rattle.tickets.specs.Steps.{valuesFrom}
@@ -22,10 +24,11 @@ use Rattle.frames.specs.declared.Header.the-variants as Header
 use Rattle.frames.specs.declared.EditRead.the-variants as EditRead
 use Rattle.frames.specs.declared.Reading.the-variants as Reading
 use Rattle.frames.specs.Numbers.{Bytes, numbers16, numbers64, fields64}
-use Rattle.frames.specs.Requests.{lengthOfKind, lengthFits, addIn, editOfKind, requestOfKind, requestIn}
+use Rattle.frames.specs.Requests.{lengthOfKind, isEditKind, isKind, lengthFits, addIn, addInMinutes, correctInMinutes, editOfKind, requestOfKind, requestIn}
 use Rattle.frames.specs.Answers.{answerFrame, written}
 use Rattle.frames.specs.Fields.{headerOf, editRead, readAs, viewRead}
 use Rattle.frames.specs.Writing.{requestFrame}
+use Rattle.frames.specs.Minutes.{AddInMinutes, CorrectInMinutes, minutesFrame}
 use Rattle.frames.specs.Reading.{answerIn}
 
 -- The whole case's input: 18 00 01 00 00 00 00 00 01 00 00 00 00 00 01 00 02 00 88 13 00 00 28 23 6A FF.
@@ -33,16 +36,13 @@ abbrev wholeCase : Bytes
 wholeCase =
     24 ∷ 0 ∷ 1 ∷ 0 ∷ 0 ∷ 0 ∷ 0 ∷ 0 ∷ 1 ∷ 0 ∷ 0 ∷ 0 ∷ 0 ∷ 0 ∷ 1 ∷ 0 ∷ 2 ∷ 0 ∷ 136 ∷ 19 ∷ 0 ∷ 0 ∷ 40 ∷ 35 ∷ 106 ∷ 255 ∷ []
 
--- Leg 1 is added to the empty passage 0: from 1 to 2, 5,000 mm, 90.00°, and a clino.
+-- Leg 1 is added to the empty passage 0: from 1 to 2, and M.
+abbrev addOf : Measure → Edit
+addOf measure = Edit.Add (record { passage = 0; leg = 1; newest = 0; count = 0; stations = record { from = 1; to = 2 }; measure = measure })
+
+-- M: a distance, 90.00°, and a clino.
 abbrev adding : ℕ → ℤ → Edit
-adding distance clino = Edit.Add (record {
-  passage = 0;
-  leg = 1;
-  newest = 0;
-  count = 0;
-  stations = record { from = 1; to = 2 };
-  measure = record { distance = distance; compass = 9000; clino = clino };
-})
+adding distance clino = addOf (record { distance = distance; compass = 9000; clino = clino })
 
 whole-case-asked : requestFrame (Request.Open 0 (adding 5000 (negsuc 149))) ≡ wholeCase
 unfolding requestFrame
@@ -77,9 +77,91 @@ view-header : headerOf twoWords ≡ Header.Kind 7
 unfolding headerOf lengthFits someHolds allHold
 view-header = refl
 
--- The kinds' lengths.
-lengths : map lengthOfKind (1 ∷ 2 ∷ 3 ∷ 4 ∷ 5 ∷ 6 ∷ []) ≡ 24 ∷ 28 ∷ 26 ∷ 24 ∷ 4 ∷ 4 ∷ []
+-- The kinds' lengths; which numbers are kinds, and which are edits'.
+lengths : map lengthOfKind (1 ∷ 2 ∷ 3 ∷ 4 ∷ 5 ∷ 6 ∷ 17 ∷ 18 ∷ []) ≡ 24 ∷ 28 ∷ 26 ∷ 24 ∷ 4 ∷ 4 ∷ 30 ∷ 40 ∷ []
 lengths = refl
+
+known-kinds : map isKind (0 ∷ 1 ∷ 7 ∷ 8 ∷ 16 ∷ 17 ∷ 18 ∷ 19 ∷ 81 ∷ 82 ∷ []) ≡ false ∷ true ∷ true ∷ false ∷ false ∷ true ∷ true ∷ false ∷ false ∷ false ∷ []
+unfolding someHolds
+known-kinds = refl
+
+edit-kinds : map isEditKind (0 ∷ 1 ∷ 2 ∷ 3 ∷ 4 ∷ 5 ∷ 7 ∷ 16 ∷ 17 ∷ 18 ∷ 19 ∷ []) ≡ false ∷ true ∷ true ∷ true ∷ true ∷ false ∷ false ∷ false ∷ true ∷ true ∷ false ∷ []
+edit-kinds = refl
+
+-- Kind 17 with the length of an Add in hundredths, and kind 16 with its own.
+short-in-minutes : headerOf (24 ∷ 0 ∷ 17 ∷ 0 ∷ replicate 22 0) ≡ Header.Refused 5
+unfolding headerOf lengthFits someHolds allHold
+short-in-minutes = refl
+
+kind-16 : headerOf (30 ∷ 0 ∷ 16 ∷ 0 ∷ replicate 28 0) ≡ Header.Refused 4
+unfolding headerOf lengthFits someHolds allHold
+kind-16 = refl
+
+-- 90° 0′, down 1° 30′ in place of 90.00° and −1.50°: the edit of the whole case.
+abbrev minutesCase : Bytes
+minutesCase =
+    30 ∷ 0 ∷ 17 ∷ 0 ∷ 0 ∷ 0 ∷ 0 ∷ 0 ∷ 1 ∷ 0 ∷ 0 ∷ 0 ∷ 0 ∷ 0 ∷ 1 ∷ 0 ∷ 2 ∷ 0 ∷ 136 ∷ 19 ∷ 0 ∷ 0 ∷ 90 ∷ 0 ∷ 0 ∷ 0 ∷ 1 ∷ 0 ∷ 1 ∷ 0 ∷ 30 ∷ 0 ∷ []
+
+abbrev inMinutes : ℕ → ℕ → ℕ → ℕ → ℕ → Minutes
+inMinutes compassDegrees compassMinutes sign clinoDegrees clinoMinutes = record {
+  distance = 5000;
+  compassDegrees = compassDegrees;
+  compassMinutes = compassMinutes;
+  sign = sign;
+  clinoDegrees = clinoDegrees;
+  clinoMinutes = clinoMinutes;
+}
+
+minutes-asked : minutesFrame 0 (AddInMinutes 0 1 0 0 (record { from = 1; to = 2 }) (inMinutes 90 0 1 1 30)) ≡ minutesCase
+unfolding minutesFrame
+minutes-asked = refl
+
+minutes-read : requestIn minutesCase ≡ Request.Open 0 (adding 5000 (negsuc 149))
+unfolding requestIn requestOfKind editOfKind addInMinutes hundredthsOf
+minutes-read = refl
+
+minutes-header : headerOf minutesCase ≡ Header.Kind 17
+unfolding headerOf lengthFits someHolds allHold
+minutes-header = refl
+
+-- 45° 10′, down 3° 20′: five different numbers, so that each has its own place; 45.17° and −3.33°.
+abbrev fiveFields : Bytes
+fiveFields =
+    30 ∷ 0 ∷ 17 ∷ 0 ∷ 0 ∷ 0 ∷ 0 ∷ 0 ∷ 1 ∷ 0 ∷ 0 ∷ 0 ∷ 0 ∷ 0 ∷ 1 ∷ 0 ∷ 2 ∷ 0 ∷ 136 ∷ 19 ∷ 0 ∷ 0 ∷ 45 ∷ 0 ∷ 10 ∷ 0 ∷ 1 ∷ 0 ∷ 3 ∷ 0 ∷ 20 ∷ 0 ∷ []
+
+fields-asked : minutesFrame 0 (AddInMinutes 0 1 0 0 (record { from = 1; to = 2 }) (inMinutes 45 10 1 3 20)) ≡ fiveFields
+unfolding minutesFrame
+fields-asked = refl
+
+fields-read : requestIn fiveFields ≡ Request.Open 0 (addOf (record { distance = 5000; compass = 4517; clino = negsuc 332 }))
+unfolding requestIn requestOfKind editOfKind addInMinutes hundredthsOf
+fields-read = refl
+
+-- That leg corrected, from 90° 0′, down 1° 30′ to 45° 1′, down 0° 30′:
+-- 28 00 12 00 00 00 00 00 01 00 01 00 02 00, 88 13 00 00 5A 00 00 00 01 00 01 00 1E 00, 88 13 00 00 2D 00 01 00 01 00 00 00 1E 00.
+abbrev correctionCase : Bytes
+correctionCase =
+    40 ∷ 0 ∷ 18 ∷ 0 ∷ 0 ∷ 0 ∷ 0 ∷ 0 ∷ 1 ∷ 0 ∷ 1 ∷ 0 ∷ 2 ∷ 0
+    ∷ 136 ∷ 19 ∷ 0 ∷ 0 ∷ 90 ∷ 0 ∷ 0 ∷ 0 ∷ 1 ∷ 0 ∷ 1 ∷ 0 ∷ 30 ∷ 0
+    ∷ 136 ∷ 19 ∷ 0 ∷ 0 ∷ 45 ∷ 0 ∷ 1 ∷ 0 ∷ 1 ∷ 0 ∷ 0 ∷ 0 ∷ 30 ∷ 0 ∷ []
+
+correction-asked : minutesFrame 0 (CorrectInMinutes 0 1 (record { from = 1; to = 2 }) (inMinutes 90 0 1 1 30) (inMinutes 45 1 1 0 30)) ≡ correctionCase
+unfolding minutesFrame
+correction-asked = refl
+
+correction-read : requestIn correctionCase ≡ Request.Open 0 (Edit.Correct (record {
+  passage = 0;
+  leg = 1;
+  stations = record { from = 1; to = 2 };
+  old = record { distance = 5000; compass = 9000; clino = negsuc 149 };
+  new = record { distance = 5000; compass = 4502; clino = negsuc 49 };
+}))
+unfolding requestIn requestOfKind editOfKind correctInMinutes hundredthsOf
+correction-read = refl
+
+correction-header : headerOf correctionCase ≡ Header.Kind 18
+unfolding headerOf lengthFits someHolds allHold
+correction-header = refl
 
 view-lengths : map (lengthFits 7) (6 ∷ 7 ∷ 8 ∷ 9 ∷ 10 ∷ 18 ∷ 19 ∷ 20 ∷ []) ≡ false ∷ false ∷ true ∷ false ∷ true ∷ true ∷ false ∷ false ∷ []
 unfolding lengthFits allHold

@@ -15,7 +15,7 @@ use Rattle.words.proofs.Tests.{split, join, next-test, failed-test, last-test}
 use Rattle.frames.specs.declared.Header.the-variants as Header
 use Rattle.frames.specs.Request.{Open, Step, Look, View}
 use Rattle.frames.specs.Numbers.{Bytes, number16}
-use Rattle.frames.specs.Requests.{lengthField, kindField, headBytes, partAfterKind, addKind, correctKind, strikeKind, moveKind, stepKind, lookKind, viewKind, editKinds, kinds, hasRow, lengthOfKind, isEditKind, isKind, lengthOfView, lengthFits, teamIn, viewWordsIn, editOfKind, requestOfKind}
+use Rattle.frames.specs.Requests.{lengthField, kindField, headBytes, partAfterKind, addKind, correctKind, strikeKind, moveKind, stepKind, lookKind, viewKind, addMinutesKind, correctMinutesKind, editKinds, kinds, hasRow, lengthOfKind, isEditKind, isKind, lengthOfView, lengthFits, teamIn, viewWordsIn, editOfKind, requestOfKind}
 use Rattle.frames.specs.Fields.{longestFrame, frameTorn, kindUnknown, lengthWrong, headerOf, isStep, ViewFields, FieldsOf, Whole}
 use Rattle.frames.proofs.Ranges.{first-of, next-of, none-of, within-in, within-below, within-above}
 
@@ -225,10 +225,10 @@ other-kind kind known no-step no-look no-view =
     go false false false no-step no-look one = one
 
 -- The one left of them is a move's.
-pub move-left : (kind : ℕ) → isEditKind kind ≡ true → (kind ≡ addKind → ⊥) → (kind ≡ correctKind → ⊥) → (kind ≡ strikeKind → ⊥) → kind ≡ moveKind
-move-left kind edit a b c = elim (ℕ-discrete kind moveKind) [
+pub move-left : (kind : ℕ) → isEditKind kind ≡ true → (kind ≡ addKind → ⊥) → (kind ≡ correctKind → ⊥) → (kind ≡ strikeKind → ⊥) → (kind ≡ addMinutesKind → ⊥) → (kind ≡ correctMinutesKind → ⊥) → kind ≡ moveKind
+move-left kind edit a b c d e = elim (ℕ-discrete kind moveKind) [
   | yes move ↦ move
-  | no d ↦ absurd (false≢true (rw (ne-eqb kind addKind a, ne-eqb kind correctKind b, ne-eqb kind strikeKind c, ne-eqb kind moveKind d) at edit))
+  | no f ↦ absurd (false≢true (rw (ne-eqb kind addKind a, ne-eqb kind correctKind b, ne-eqb kind strikeKind c, ne-eqb kind moveKind f, ne-eqb kind addMinutesKind d, ne-eqb kind correctMinutesKind e) at edit))
 ]
 
 -- What a known kind and a refusal say of the tests.

@@ -5,4 +5,5 @@ pub mod Headers
 pub mod Framed
 pub mod ReadsBack
 pub mod Asked
+pub mod Fitting
 pub mod Examples

@@ -10,7 +10,9 @@ use Rattle.words.specs.Tests.{allHold, someHolds}
 use Rattle.words.specs.Words.{wordsInBook, mostTargets}
 use Rattle.legs.specs.declared.Measure.{Measure}
 use Rattle.legs.specs.Legs.{clinoInRange, measureInRange}
+use Rattle.legs.specs.Minutes.{Minutes, hundredthsOf, signedBy, compassAngleInRange, clinoAngleInRange, anglesInRange, rounded}
 use Rattle.edits.specs.declared.Edit.{Edit}
+use Rattle.edits.specs.declared.Edit.the-variants as Edit
 use Rattle.edits.specs.Ranges.{legNumberInRange, legOrNoneInRange, countBeforeStrikeInRange, editInRange, editRepeats}
 use Rattle.edits.specs.Views.{viewInRange, viewRepeats, viewOf}
 use Rattle.frames.specs.Request.{Request, Open, Step, Look, View}
@@ -33,7 +35,7 @@ use Rattle.frames.specs.declared.Reading.{Reading}
 use Rattle.frames.specs.declared.Reading.the-variants as Reading
 use Rattle.frames.specs.declared.ViewRead.{ViewRead}
 use Rattle.frames.specs.Numbers.{Bytes}
-use Rattle.frames.specs.Requests.{lengthField, kindField, headBytes, partAfterKind, stepKind, viewKind, lengthOfKind, isKind, lengthFits}
+use Rattle.frames.specs.Requests.{lengthField, kindField, headBytes, partAfterKind, stepKind, viewKind, lengthOfKind, isKind, lengthFits, measureAt, minutesAt, addWith, correctWith, editOfKind, anglesOfKind}
 
 -- A frame has at most 64 bytes.
 abbrev pub longestFrame : ℕ
@@ -88,12 +90,18 @@ abbrev pub WholeIfKnown : Bytes → Header → Type 0
 WholeIfKnown frame (Header.Kind kind) = Whole frame kind
 WholeIfKnown frame (Header.Refused number) = Unit {0}
 
--- 10. A field is out of range.
-abbrev pub fieldOutOfRange : Request → Bool
-fieldOutOfRange (Open team edit) = not (editInRange edit)
-fieldOutOfRange (Step team) = false
-fieldOutOfRange (Look word) = not (ltb word wordsInBook)
-fieldOutOfRange (View team n words) = not (viewInRange n words)
+-- 10. A field is out of range: one of an angle in minutes as it is sent, or one of what is asked for.
+abbrev pub angleOutOfRange : Bytes → Bool
+angleOutOfRange frame = not (anglesOfKind (kindField frame) (partAfterKind frame))
+
+abbrev pub requestOutOfRange : Request → Bool
+requestOutOfRange (Open team edit) = not (editInRange edit)
+requestOutOfRange (Step team) = false
+requestOutOfRange (Look word) = not (ltb word wordsInBook)
+requestOutOfRange (View team n words) = not (viewInRange n words)
+
+abbrev pub fieldOutOfRange : Bytes → Request → Bool
+fieldOutOfRange frame request = someHolds (angleOutOfRange frame ∷ requestOutOfRange request ∷ [])
 
 -- 11. from equals to, q equals p, or a leg number other than 0 is named twice; a view names a word twice.
 abbrev pub fieldRepeated : Request → Bool
@@ -115,6 +123,34 @@ clinoFieldOf clino = cond (clinoInRange clino) (SignedField.InRange clino) Signe
 abbrev pub measureFieldOf : Measure → MeasureField
 measureFieldOf measure = cond (measureInRange measure) (MeasureField.InRange measure) MeasureField.OutOfRange
 
+-- Of an angle in minutes: the compass, with its value in hundredths; the clino likewise; and M.
+abbrev pub compassMinutesFieldOf : ℕ → ℕ → Field
+compassMinutesFieldOf degrees minutes = fieldOf (compassAngleInRange degrees minutes) (hundredthsOf degrees minutes)
+
+abbrev pub clinoMinutesFieldOf : ℕ → ℕ → ℕ → SignedField
+clinoMinutesFieldOf sign degrees minutes =
+    cond (clinoAngleInRange sign degrees minutes) (SignedField.InRange (signedBy sign (hundredthsOf degrees minutes))) SignedField.OutOfRange
+
+-- M is out of range where its angles are, whatever they are rounded to.
+abbrev pub measureFieldIf : Bool → Measure → MeasureField
+measureFieldIf angles measure = cond angles (measureFieldOf measure) MeasureField.OutOfRange
+
+abbrev pub minutesFieldOf : Minutes → MeasureField
+minutesFieldOf minutes = measureFieldIf (anglesInRange minutes) (rounded minutes)
+
+-- M in minutes or in hundredths: how many bytes it has, what it is read as, whether its angles are in range as they are sent, and its answer.
+abbrev pub measureSize : Bool → ℕ
+measureSize minutes = cond minutes 14 8
+
+abbrev pub measureReadAt : Bool → Bytes → ℕ → Measure
+measureReadAt minutes part at = cond minutes (rounded (minutesAt part at)) (measureAt part at)
+
+abbrev pub anglesFitAt : Bool → Bytes → ℕ → Bool
+anglesFitAt minutes part at = cond minutes (anglesInRange (minutesAt part at)) true
+
+abbrev pub measureFieldAt : Bool → Bytes → ℕ → MeasureField
+measureFieldAt minutes part at = measureFieldIf (anglesFitAt minutes part at) (measureReadAt minutes part at)
+
 -- f, r, s and c, where a leg is taken out of its passage's list.
 abbrev pub takenInRange : Taken → Bool
 takenInRange taken =
@@ -129,9 +165,28 @@ takenInRange taken =
 abbrev pub takenFieldOf : Taken → TakenField
 takenFieldOf taken = cond (takenInRange taken) (TakenField.InRange taken) TakenField.OutOfRange
 
--- What the fields of an edit are read as: refused by 10 where one is out of range, then by 11, or else the edit.
+-- What an edit's own fields, in hundredths, are read as: refused by 10 where one is out of range, then by 11, or else the edit.
 unfoldable pub editRead : Edit → EditRead
 editRead edit = cond (editInRange edit) (cond (editRepeats edit) (EditRead.Refused 11) (EditRead.Is edit)) (EditRead.Refused 10)
+
+-- Angles in minutes are tested as they are sent.
+abbrev pub readIf : Bool → Edit → EditRead
+readIf angles edit = cond angles (editRead edit) (EditRead.Refused 10)
+
+-- What the part after an edit's kind is read as: `editRead` of its edit, once its angles in minutes have been tested;
+unfoldable pub readEdit : ℕ → Bytes → EditRead
+readEdit kind part = readIf (anglesOfKind kind part) (editOfKind kind part)
+
+-- of Add and of Correct, in minutes or in hundredths.
+unfoldable pub addRead : Bool → Bytes → EditRead
+addRead minutes part = readIf (anglesFitAt minutes part 14) (Edit.Add (addWith (measureReadAt minutes part 14) part))
+
+unfoldable pub correctRead : Bool → Bytes → EditRead
+correctRead minutes part =
+    let second = 10 + measureSize minutes in
+    readIf
+    (allHold (anglesFitAt minutes part 10 ∷ anglesFitAt minutes part second ∷ []))
+    (Edit.Correct (correctWith (measureReadAt minutes part 10) (measureReadAt minutes part second) part))
 
 -- A view read, or a refusal, with no words.
 abbrev pub readAs : Reading → List ℕ → ViewRead

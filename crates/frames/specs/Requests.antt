@@ -9,6 +9,7 @@ use Rattle.words.specs.Tests.{allHold, someHolds, within}
 use Rattle.words.specs.Words.{mostTargets}
 use Rattle.legs.specs.declared.Stations.{Stations}
 use Rattle.legs.specs.declared.Measure.{Measure}
+use Rattle.legs.specs.Minutes.{Minutes, anglesInRange, rounded}
 use Rattle.edits.specs.declared.Add.{Add}
 use Rattle.edits.specs.declared.Correct.{Correct}
 use Rattle.edits.specs.declared.Strike.{Strike}
@@ -58,9 +59,16 @@ lookKind = 6
 abbrev pub viewKind : ℕ
 viewKind = 7
 
--- Each kind and its length, which is never 0: of the edits Add (length 24), Correct (28), Strike (26) and Move (24),
+-- Add and Correct, compass and clino in degrees and minutes.
+abbrev pub addMinutesKind : ℕ
+addMinutesKind = 17
+
+abbrev pub correctMinutesKind : ℕ
+correctMinutesKind = 18
+
+-- Each kind and its length, which is never 0: of the edits Add (length 24), Correct (28), Strike (26) and Move (24), in minutes Add (30) and Correct (40),
 abbrev pub editKinds : List (ℕ × ℕ)
-editKinds = (addKind, 24) ∷ (correctKind, 28) ∷ (strikeKind, 26) ∷ (moveKind, 24) ∷ []
+editKinds = (addKind, 24) ∷ (correctKind, 28) ∷ (strikeKind, 26) ∷ (moveKind, 24) ∷ (addMinutesKind, 30) ∷ (correctMinutesKind, 40) ∷ []
 
 -- and of all but a view, whose length varies: besides the edits Step (4) and Look (4).
 abbrev pub kinds : List (ℕ × ℕ)
@@ -103,6 +111,17 @@ stationsAt part at = record { from = number16 part at; to = number16 part (at + 
 abbrev pub measureAt : Bytes → ℕ → Measure
 measureAt part at = record { distance = number32 part at; compass = number16 part (at + 4); clino = signed16 part (at + 6) }
 
+-- M of a frame in minutes: distance (32 bits), degrees and minutes of the compass, sign, degrees and minutes of the clino.
+abbrev pub minutesAt : Bytes → ℕ → Minutes
+minutesAt part at = record {
+  distance = number32 part at;
+  compassDegrees = number16 part (at + 4);
+  compassMinutes = number16 part (at + 6);
+  sign = number16 part (at + 8);
+  clinoDegrees = number16 part (at + 10);
+  clinoMinutes = number16 part (at + 12);
+}
+
 -- f r s c: a leg that is taken out of its passage's list.
 abbrev pub takenAt : Bytes → ℕ → Taken
 takenAt part at = record { newer = number16 part at; leg = number16 part (at + 2); older = number16 part (at + 4); count = number16 part (at + 6) }
@@ -111,26 +130,38 @@ takenAt part at = record { newer = number16 part at; leg = number16 part (at + 2
 abbrev pub teamIn : Bytes → ℕ
 teamIn part = number16 part 0
 
--- Add: team p r h c from to M.
-unfoldable pub addIn : Bytes → Add
-addIn part = record {
+-- Add: team p r h c from to M. M is what its fields are read as, at byte 14.
+abbrev pub addWith : Measure → Bytes → Add
+addWith measure part = record {
   passage = number16 part 2;
   leg = number16 part 4;
   newest = number16 part 6;
   count = number16 part 8;
   stations = stationsAt part 10;
-  measure = measureAt part 14;
+  measure = measure;
 }
 
--- Correct: team p r from to, old M, new M.
-unfoldable pub correctIn : Bytes → Correct
-correctIn part = record {
+unfoldable pub addIn : Bytes → Add
+addIn part = addWith (measureAt part 14) part
+
+unfoldable pub addInMinutes : Bytes → Add
+addInMinutes part = addWith (rounded (minutesAt part 14)) part
+
+-- Correct: team p r from to, old M, new M. They start at byte 10, each of 8 bytes, in minutes of 14.
+abbrev pub correctWith : Measure → Measure → Bytes → Correct
+correctWith old new part = record {
   passage = number16 part 2;
   leg = number16 part 4;
   stations = stationsAt part 6;
-  old = measureAt part 10;
-  new = measureAt part 18;
+  old = old;
+  new = new;
 }
+
+unfoldable pub correctIn : Bytes → Correct
+correctIn part = correctWith (measureAt part 10) (measureAt part 18) part
+
+unfoldable pub correctInMinutes : Bytes → Correct
+correctInMinutes part = correctWith (rounded (minutesAt part 10)) (rounded (minutesAt part 24)) part
 
 -- Strike: team p f r s c from to M.
 unfoldable pub strikeIn : Bytes → Strike
@@ -158,13 +189,22 @@ moveIn part = record {
   stations = stationsAt part 18;
 }
 
--- The edit of a frame whose kind is an edit's.
+-- The edit of a frame whose kind is an edit's: one in minutes is the edit in hundredths that it is rounded to.
 unfoldable pub editOfKind : ℕ → Bytes → Edit
 editOfKind kind part =
     cond (eqb kind addKind) (Edit.Add (addIn part))
     (cond (eqb kind correctKind) (Edit.Correct (correctIn part))
     (cond (eqb kind strikeKind) (Edit.Strike (strikeIn part))
-    (Edit.Move (moveIn part))))
+    (cond (eqb kind addMinutesKind) (Edit.Add (addInMinutes part))
+    (cond (eqb kind correctMinutesKind) (Edit.Correct (correctInMinutes part))
+    (Edit.Move (moveIn part))))))
+
+-- Whether the angles of a frame in minutes are in range as they are sent. Other frames have none in minutes.
+unfoldable pub anglesOfKind : ℕ → Bytes → Bool
+anglesOfKind kind part =
+    cond (eqb kind addMinutesKind) (anglesInRange (minutesAt part 14))
+    (cond (eqb kind correctMinutesKind) (allHold (anglesInRange (minutesAt part 10) ∷ anglesInRange (minutesAt part 24) ∷ []))
+    true)
 
 -- View: team n, then words: as many as there are.
 abbrev pub viewWordsIn : Bytes → List ℕ

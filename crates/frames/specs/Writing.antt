@@ -1,4 +1,4 @@
--- The frame that asks for a request: the other way round from `requestIn`.
+-- The frame that asks for a request, an edit's in hundredths: the other way round from `requestIn`. (One in minutes: Minutes.)
 use Prim.Native.Nat.{ℕ, _-_}
 use mathlib.Core.Path.{_≡_}
 use mathlib.Core.List.{List, [], _∷_, _++_, map}

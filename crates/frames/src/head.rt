@@ -30,6 +30,8 @@ fn length_of_kind(kind: u16) -> u16
         Kind::CORRECT => Length::CORRECT,
         Kind::STRIKE => Length::STRIKE,
         Kind::MOVE => Length::MOVE,
+        Kind::ADD_IN_MINUTES => Length::ADD_IN_MINUTES,
+        Kind::CORRECT_IN_MINUTES => Length::CORRECT_IN_MINUTES,
         Kind::STEP => Length::STEP,
         Kind::LOOK => Length::LOOK,
         _ => 0,
@@ -45,6 +47,8 @@ pub fn is_edit_kind(kind: u16) -> bool
         Kind::CORRECT => true,
         Kind::STRIKE => true,
         Kind::MOVE => true,
+        Kind::ADD_IN_MINUTES => true,
+        Kind::CORRECT_IN_MINUTES => true,
         _ => false,
     }
 }

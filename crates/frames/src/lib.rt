@@ -127,6 +127,13 @@ impl Length {
 
     pub const MOVE: u16 = 12 * Length::FIELD;
 
+    // Distance, and compass and clino by degrees and minutes, the clino with a sign.
+    const MEASURE_IN_MINUTES: u16 = Frame::LONG as u16 + 5 * Length::FIELD;
+
+    pub const ADD_IN_MINUTES: u16 = 8 * Length::FIELD + Length::MEASURE_IN_MINUTES;
+
+    pub const CORRECT_IN_MINUTES: u16 = 6 * Length::FIELD + 2 * Length::MEASURE_IN_MINUTES;
+
     // The team, or the word, is the only other field.
     pub const STEP: u16 = 2 * Length::FIELD;
 
@@ -150,6 +157,11 @@ impl Kind {
     pub const LOOK: u16 = 6;
 
     pub const VIEW: u16 = 7;
+
+    // Add and Correct, compass and clino in degrees and minutes.
+    pub const ADD_IN_MINUTES: u16 = 17;
+
+    pub const CORRECT_IN_MINUTES: u16 = 18;
 }
 
 // The numbers of the refusals, in checking order.

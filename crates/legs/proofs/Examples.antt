@@ -1,6 +1,8 @@
 -- Examples computed: the ends of the ranges are read back, and what is no leg's words reads as none. Examples 1 to 4, 8 and 9 of the scope.
 use Prim.Native.Nat.{ℕ}
 use mathlib.Core.Path.{_≡_, refl}
+use mathlib.Core.List.{[], _∷_, map}
+use mathlib.Core.Bool.{true, false}
 use lib.IntN.{ℤ, pos, negsuc}
 use Rattle.words.specs.Tests.{allHold}
 use Rattle.words.specs.Words.{measureWord}
@@ -10,6 +12,7 @@ use Rattle.legs.specs.declared.Reading.the-variants.{NoLeg, Is}
 use Rattle.legs.specs.Legs.{clinoOffset, isPlumb, placeOf, measureOf, placeInRange, measureInRange}
 use Rattle.legs.specs.Reading.{isPlace, isMeasure, readingOf}
 use Rattle.legs.specs.Positions.{positionOf}
+use Rattle.legs.specs.Minutes.{hundredthsOf, signedBy, compassAngleInRange, clinoAngleInRange, rounded}
 
 abbrev leg : ℕ → ℕ → ℕ → ℕ → ℕ → ℤ → Leg
 leg passage from to distance compass clino = record {
@@ -27,6 +30,35 @@ example-1 = refl
 
 example-2 : placeOf 0 (thatLeg .stations) ≡ 8388673
 example-2 = refl
+
+-- Minutes in hundredths: a third or two thirds of one are rounded, half a degree down is said, and up and down zero are one.
+minutes : map (λ (angle : ℕ × ℕ). hundredthsOf (angle .0) (angle .1)) ((0, 1) ∷ (0, 2) ∷ (0, 30) ∷ (0, 59) ∷ (1, 30) ∷ (90, 0) ∷ (359, 59) ∷ []) ≡ 2 ∷ 3 ∷ 50 ∷ 98 ∷ 150 ∷ 9000 ∷ 35998 ∷ []
+unfolding hundredthsOf
+minutes = refl
+
+-- 45° 1′, down 0° 1′: both angles are rounded up.
+both-rounded :
+    rounded (record { distance = 5000; compassDegrees = 45; compassMinutes = 1; sign = 1; clinoDegrees = 0; clinoMinutes = 1 })
+    ≡ record { distance = 5000; compass = 4502; clino = negsuc 1 }
+unfolding hundredthsOf
+both-rounded = refl
+
+half-down : signedBy 1 (hundredthsOf 0 30) ≡ negsuc 49
+unfolding hundredthsOf
+half-down = refl
+
+zero-down : signedBy 1 (hundredthsOf 0 0) ≡ signedBy 0 (hundredthsOf 0 0)
+unfolding hundredthsOf
+zero-down = refl
+
+-- Angles at the ends of their ranges, zero up and down, and one past each end: minute 60, degree 360, sign 2, degree 91, and 90 degrees 1 minute. 10 degrees 60 minutes would come to 1,100.
+compass-ends : map (λ (angle : ℕ × ℕ). compassAngleInRange (angle .0) (angle .1)) ((0, 0) ∷ (359, 59) ∷ (10, 60) ∷ (360, 0) ∷ []) ≡ true ∷ true ∷ false ∷ false ∷ []
+unfolding allHold
+compass-ends = refl
+
+clino-ends : map (λ (angle : ℕ × ℕ × ℕ). clinoAngleInRange (angle .0) (angle .1) (angle .2)) ((0, 0, 0) ∷ (1, 0, 0) ∷ (0, 90, 0) ∷ (1, 90, 0) ∷ (1, 89, 59) ∷ (0, 10, 60) ∷ (2, 10, 0) ∷ (0, 91, 0) ∷ (0, 90, 1) ∷ []) ≡ true ∷ true ∷ true ∷ true ∷ true ∷ false ∷ false ∷ false ∷ false ∷ []
+unfolding allHold
+clino-ends = refl
 
 -- Leg 1,344 ends at word 4,095.
 example-3 : measureWord 1344 ≡ 4095

@@ -13,7 +13,7 @@ use Rattle.tickets.specs.Tickets.{ticketOf, withTicket, wellMade}
 use Rattle.tickets.specs.Steps.{stepOf}
 use Rattle.frames.specs.Request.{Step}
 use Rattle.frames.specs.Numbers.{Bytes}
-use Rattle.frames.specs.Requests.{requestIn, lengthFits}
+use Rattle.frames.specs.Requests.{requestIn, anglesOfKind, lengthFits}
 use Rattle.frames.specs.Writing.{requestFrame}
 use Rattle.frames.specs.Answers.{longestAnswer}
 use Rattle.frames.proofs.Asked.{requests-read-back}
@@ -33,7 +33,7 @@ module _ (shared : Shared) (turn : Turn) (whole : length (shared .book) ≡ word
   not-badly-made = next-test _ _ stands ∙ failed-test _ _ (ap not well)
 
   not-refused : refusalOf (shared .book) (shared .tickets) frame (turn .out) ≡ none
-  unfolding refusalOf refusalChecks requestFrame someHolds allHold lengthFits
+  unfolding refusalOf refusalChecks requestFrame anglesOfKind someHolds allHold lengthFits
   not-refused =
       rw (eq-eqb (length (shared .book)) wordsInBook whole, le-ltb (length (turn .out)) longestAnswer room, read-back, lt-ltb (turn .team) teamCount inside, not-badly-made, stands)
 

@@ -22,6 +22,12 @@ const WRONG: u64 = 4;
 const AWAY: u64 = 6;
 /// Of a hundred measures, how many are plumb legs'.
 const PLUMB: u64 = 5;
+/// Of a hundred adds, how many are in minutes, and so of a hundred corrections of legs
+/// whose figures can be said in minutes, in whichever form they were written.
+const ADDS_IN_MINUTES: u64 = 10;
+const CORRECTIONS_IN_MINUTES: u64 = 25;
+/// Of a hundred measures made in minutes, how many are level, and sent as up or down.
+const LEVEL: u64 = 2;
 /// The clino of a leg straight up; straight down it is the negative.
 const STEEPEST: i16 = 9_000;
 /// Compasses in range are below this.
@@ -52,6 +58,38 @@ impl Dice {
     }
 }
 
+/// An angle as old instruments show it.
+struct Angle {
+    degrees: u16,
+    minutes: u16,
+}
+
+impl Angle {
+    /// Any below so many degrees.
+    fn any_below(degrees: u64, dice: &mut Dice) -> Self {
+        Angle {
+            degrees: dice.below(degrees) as u16,
+            minutes: dice.below(60) as u16,
+        }
+    }
+
+    /// To the nearest hundredth of a degree.
+    fn hundredths(&self) -> u16 {
+        let minutes = 60 * self.degrees as u32 + self.minutes as u32;
+        ((200 * minutes + 60) / 120) as u16
+    }
+
+    /// The angle that is so many hundredths after rounding, if there is one.
+    fn rounded_to(hundredths: u16) -> Option<Self> {
+        let angle = Angle {
+            degrees: hundredths / 100,
+            minutes: (6 * (hundredths % 100) + 5) / 10,
+        };
+        (angle.hundredths() == hundredths).then_some(angle)
+    }
+}
+
+/// A measure in hundredths, in whichever form it is sent.
 #[derive(Clone, Copy, PartialEq)]
 struct Measure {
     distance: u32,
@@ -78,6 +116,30 @@ impl Measure {
         dice.below(COMPASSES as u64) as u16
     }
 
+    /// Any that can be said in minutes.
+    fn any_in_minutes(dice: &mut Dice) -> Self {
+        let distance = 1 + dice.below(100_000) as u32;
+        let steep = match dice.below(100) {
+            share if share < PLUMB => STEEPEST,
+            share if share < PLUMB + LEVEL => 0,
+            _ => Angle::any_below(90, dice).hundredths() as i16,
+        };
+        Measure {
+            distance,
+            compass: Angle::any_below(360, dice).hundredths(),
+            clino: if dice.percent(50) { -steep } else { steep },
+        }
+    }
+
+    /// A new measure in the form of an edit.
+    fn any_in(in_minutes: bool, dice: &mut Dice) -> Self {
+        if in_minutes {
+            Self::any_in_minutes(dice)
+        } else {
+            Self::any(dice)
+        }
+    }
+
     fn is_plumb(self) -> bool {
         self.clino.abs() == STEEPEST
     }
@@ -98,6 +160,17 @@ impl Measure {
             ..self
         }
     }
+
+    /// The same in minutes, if the figures can be said so.
+    fn quoted_in_minutes(self, dice: &mut Dice) -> Option<Self> {
+        if self.is_plumb() {
+            let compass = Angle::any_below(360, dice).hundredths();
+            return Some(Measure { compass, ..self });
+        }
+        Angle::rounded_to(self.compass)?;
+        Angle::rounded_to(self.clino.unsigned_abs())?;
+        Some(self)
+    }
 }
 
 #[derive(Clone, Copy)]
@@ -116,11 +189,13 @@ enum Edit {
         h: u16,
         c: u16,
         leg: Leg,
+        in_minutes: bool,
     },
     Correct {
         p: u16,
         leg: Leg,
         new: Measure,
+        in_minutes: bool,
     },
     Strike {
         p: u16,
@@ -148,6 +223,14 @@ impl Edit {
             Edit::Add { leg, .. } | Edit::Strike { leg, .. } => leg.measure.is_plumb(),
             Edit::Correct { leg, new, .. } => leg.measure.is_plumb() || new.is_plumb(),
             Edit::Move { .. } => false,
+        }
+    }
+
+    /// Whether it is sent in minutes, for edits that can be.
+    fn in_minutes(&self) -> Option<bool> {
+        match *self {
+            Edit::Add { in_minutes, .. } | Edit::Correct { in_minutes, .. } => Some(in_minutes),
+            Edit::Strike { .. } | Edit::Move { .. } => None,
         }
     }
 }
@@ -200,14 +283,14 @@ impl Lists {
     /// Makes the edit if it succeeds, and says whether it did.
     fn perform(&mut self, edit: &Edit) -> bool {
         match *edit {
-            Edit::Add { p, h, c, leg } => {
+            Edit::Add { p, h, c, leg, .. } => {
                 if self.newest(p) != h || self.count(p) != c || self.has(leg.number) {
                     return false;
                 }
                 let measure = leg.measure.taken();
                 self.0[p as usize].push(Leg { measure, ..leg });
             }
-            Edit::Correct { p, leg, new } => {
+            Edit::Correct { p, leg, new, .. } => {
                 let Some(at) = self.quoted(p, &leg, true) else {
                     return false;
                 };
@@ -275,11 +358,24 @@ impl Writer {
         values.iter().for_each(|&value| self.field(value));
     }
 
-    fn measure(&mut self, measure: Measure) {
+    fn measure(&mut self, measure: Measure, in_minutes: bool) {
         self.field(measure.distance as u16);
         self.field((measure.distance >> 16) as u16);
+        if in_minutes {
+            return self.angles_in_minutes(measure);
+        }
         self.field(measure.compass);
         self.field(measure.clino as u16);
+    }
+
+    /// A level leg goes up or down, by the last bit of its distance.
+    fn angles_in_minutes(&mut self, measure: Measure) {
+        let angle = |hundredths| Angle::rounded_to(hundredths).expect("chosen to be sayable");
+        let compass = angle(measure.compass);
+        let clino = angle(measure.clino.unsigned_abs());
+        let down = measure.clino < 0 || measure.clino == 0 && measure.distance % 2 == 1;
+        self.fields(&[compass.degrees, compass.minutes, down as u16]);
+        self.fields(&[clino.degrees, clino.minutes]);
     }
 
     fn whole(mut self) -> (Frame, usize) {
@@ -291,23 +387,40 @@ impl Writer {
 
 fn edit_frame(team: u16, edit: &Edit) -> (Frame, usize) {
     let writer = match *edit {
-        Edit::Add { p, h, c, leg } => {
-            let mut writer = Writer::new(ADD, team);
+        Edit::Add {
+            p,
+            h,
+            c,
+            leg,
+            in_minutes,
+        } => {
+            let kind = if in_minutes { ADD_IN_MINUTES } else { ADD };
+            let mut writer = Writer::new(kind, team);
             writer.fields(&[p, leg.number, h, c, leg.from, leg.to]);
-            writer.measure(leg.measure);
+            writer.measure(leg.measure, in_minutes);
             writer
         }
-        Edit::Correct { p, leg, new } => {
-            let mut writer = Writer::new(CORRECT, team);
+        Edit::Correct {
+            p,
+            leg,
+            new,
+            in_minutes,
+        } => {
+            let kind = if in_minutes {
+                CORRECT_IN_MINUTES
+            } else {
+                CORRECT
+            };
+            let mut writer = Writer::new(kind, team);
             writer.fields(&[p, leg.number, leg.from, leg.to]);
-            writer.measure(leg.measure);
-            writer.measure(new);
+            writer.measure(leg.measure, in_minutes);
+            writer.measure(new, in_minutes);
             writer
         }
         Edit::Strike { p, f, s, c, leg } => {
             let mut writer = Writer::new(STRIKE, team);
             writer.fields(&[p, f, leg.number, s, c, leg.from, leg.to]);
-            writer.measure(leg.measure);
+            writer.measure(leg.measure, false);
             writer
         }
         Edit::Move {
@@ -338,9 +451,12 @@ struct Teams {
     /// Whether the ticket is a view.
     viewing: [bool; TEAMS],
     filling: bool,
-    /// How many edits were sent, and how many of them with a plumb leg's measure.
+    /// How many edits were sent, how many of them with a plumb leg's measure, how many
+    /// were adds or corrections, and how many of those in minutes.
     edits: u64,
     plumb_edits: u64,
+    adds_and_corrections: u64,
+    edits_in_minutes: u64,
 }
 
 impl Teams {
@@ -358,7 +474,7 @@ impl Teams {
     }
 
     /// A new leg under a number that no list and no open edit has.
-    fn new_leg(&mut self) -> Leg {
+    fn new_leg(&mut self, in_minutes: bool) -> Leg {
         let number = loop {
             let number = 1 + self.dice.below(LAST_LEG as u64) as u16;
             let asked = |edit: &Option<Edit>| matches!(edit, Some(Edit::Add { leg, .. }) if leg.number == number);
@@ -372,7 +488,7 @@ impl Teams {
             number,
             from,
             to,
-            measure: Measure::any(&mut self.dice),
+            measure: Measure::any_in(in_minutes, &mut self.dice),
         }
     }
 
@@ -390,12 +506,14 @@ impl Teams {
         let adds = if self.filling { 45 } else { 20 };
         let choice = self.dice.below(100);
         if choice < adds || count == 0 {
-            let leg = self.new_leg();
+            let in_minutes = self.dice.percent(ADDS_IN_MINUTES);
+            let leg = self.new_leg(in_minutes);
             return Edit::Add {
                 p,
                 h: self.lists.newest(p),
                 c: count + off,
                 leg,
+                in_minutes,
             };
         }
         // Work is mostly at the newer end.
@@ -405,6 +523,7 @@ impl Teams {
             .min(self.dice.below(count as u64)) as usize;
         let at = count as usize - 1 - depth;
         let mut leg = self.lists.of(p)[at];
+        let said = leg.measure.quoted_in_minutes(&mut self.dice);
         leg.measure = leg.measure.quoted(&mut self.dice);
         let (f, s) = self.lists.beside(p, at);
         if choice < 65 {
@@ -412,13 +531,17 @@ impl Teams {
             return Edit::Strike { p, f, s, c, leg };
         }
         if choice < 82 {
+            let said = said.filter(|_| self.dice.percent(CORRECTIONS_IN_MINUTES));
+            let in_minutes = said.is_some();
+            leg.measure = said.unwrap_or(leg.measure);
             if off == 1 {
                 leg.measure.distance = leg.measure.distance % 100_000 + 1;
             }
             return Edit::Correct {
                 p,
                 leg,
-                new: Measure::any(&mut self.dice),
+                new: Measure::any_in(in_minutes, &mut self.dice),
+                in_minutes,
             };
         }
         let q = loop {
@@ -444,21 +567,24 @@ impl Teams {
     fn refusal(&mut self) -> (Frame, usize) {
         let team = self.dice.below(TEAMS as u64) as u16;
         let has_ticket = self.has_ticket(team);
-        let leg = self.new_leg();
-        let add = Edit::Add {
-            p: 0,
-            h: 0,
+        let in_minutes = self.dice.percent(ADDS_IN_MINUTES);
+        let leg = self.new_leg(in_minutes);
+        let add = |p, h, leg| Edit::Add {
+            p,
+            h,
             c: 0,
             leg,
+            in_minutes,
         };
-        match self.dice.below(9) {
+        match self.dice.below(11) {
             0 => {
                 // A whole frame of two or three bytes.
                 let mut bytes = [0; LONGEST_FRAME];
                 bytes[0] = self.dice.below(2) as u8;
                 (bytes, 2 + bytes[0] as usize)
             }
-            1 => Writer::new(8, team).whole(),
+            // Between the kinds in hundredths and those in minutes there are none.
+            1 => Writer::new(8 + self.dice.below(9) as u16, team).whole(),
             2 => {
                 let mut writer = Writer::new(STEP, team);
                 writer.field(0);
@@ -466,27 +592,17 @@ impl Teams {
             }
             3 => Writer::new(STEP, 16 + team).whole(),
             4 => Writer::new(LOOK, 4_096 + team).whole(),
+            5 => {
+                let mut writer = Writer::new(ADD_IN_MINUTES, team);
+                writer.fields(&[0; 10]);
+                writer.whole()
+            }
             // An edit over a ticket, or a step without one.
-            _ if has_ticket => edit_frame(team, &add),
-            5 => Writer::new(STEP, team).whole(),
-            6 => edit_frame(
-                team,
-                &Edit::Add {
-                    p: 32,
-                    h: 0,
-                    c: 0,
-                    leg,
-                },
-            ),
-            7 => edit_frame(
-                team,
-                &Edit::Add {
-                    p: 0,
-                    h: leg.number,
-                    c: 0,
-                    leg,
-                },
-            ),
+            _ if has_ticket => edit_frame(team, &add(0, 0, leg)),
+            6 => Writer::new(STEP, team).whole(),
+            7 => edit_frame(team, &add(32, 0, leg)),
+            8 => edit_frame(team, &add(0, leg.number, leg)),
+            9 => self.angle_out_of_range(team, leg),
             // The compass of a plumb leg is to be in range, though it isn't kept.
             _ => {
                 let measure = Measure {
@@ -494,18 +610,35 @@ impl Teams {
                     clino: STEEPEST,
                     ..leg.measure
                 };
-                let leg = Leg { measure, ..leg };
-                edit_frame(
-                    team,
-                    &Edit::Add {
-                        p: 0,
-                        h: 0,
-                        c: 0,
-                        leg,
-                    },
-                )
+                edit_frame(team, &add(0, 0, Leg { measure, ..leg }))
             }
         }
+    }
+
+    /// An add in minutes with one field of an angle out of range: sixty minutes, a sign
+    /// that is neither up nor down, or a minute over 90 degrees.
+    fn angle_out_of_range(&mut self, team: u16, leg: Leg) -> (Frame, usize) {
+        let mut angles = [
+            self.dice.below(360) as u16,
+            self.dice.below(60) as u16,
+            self.dice.below(2) as u16,
+            self.dice.below(90) as u16,
+            self.dice.below(60) as u16,
+        ];
+        match self.dice.below(4) {
+            0 => angles[1] = 60,
+            1 => angles[2] = 2,
+            2 => angles[3..].copy_from_slice(&[90, 1]),
+            _ => angles[4] = 60,
+        }
+        let mut writer = Writer::new(ADD_IN_MINUTES, team);
+        writer.fields(&[0, leg.number, 0, 0, leg.from, leg.to]);
+        writer.fields(&[
+            leg.measure.distance as u16,
+            (leg.measure.distance >> 16) as u16,
+        ]);
+        writer.fields(&angles);
+        writer.whole()
     }
 
     fn frame(&mut self) -> (Frame, usize) {
@@ -527,6 +660,8 @@ impl Teams {
         self.open[team as usize] = Some(edit);
         self.edits += 1;
         self.plumb_edits += edit.has_plumb_measure() as u64;
+        self.adds_and_corrections += edit.in_minutes().is_some() as u64;
+        self.edits_in_minutes += (edit.in_minutes() == Some(true)) as u64;
         edit_frame(team, &edit)
     }
 
@@ -623,6 +758,8 @@ fn main() -> io::Result<()> {
         filling: true,
         edits: 0,
         plumb_edits: 0,
+        adds_and_corrections: 0,
+        edits_in_minutes: 0,
     };
     let mut kinds = [0u64; 256];
     for _ in 0..frames {
@@ -652,9 +789,11 @@ fn main() -> io::Result<()> {
     ];
     let counts = names.map(|(kind, name)| format!("{name} {}", kinds[kind as usize]));
     eprintln!(
-        "{frames} frames, seed {seed}; edits: {}, with a plumb measure {}; answers: {}",
+        "{frames} frames, seed {seed}; edits: {}, with a plumb measure {}; adds and corrections: {}, in minutes {}; answers: {}",
         teams.edits,
         teams.plumb_edits,
+        teams.adds_and_corrections,
+        teams.edits_in_minutes,
         counts.join(", ")
     );
     Ok(())

@@ -362,7 +362,7 @@ enum-known-read : tie.Need-enum-known-read Inv-loop μ-loop
 enum-known-read c = search needs
 
 opened-requires : tie.Need-opened-requires Inv-loop μ-loop
-opened-requires c κs = read-allowed _ _ (sym (c .before .before .before .read-edit .ensures) ∙ c .before .read .given .1)
+opened-requires c κs = read-allowed _ _ _ (sym (c .before .before .before .read-edit .ensures) ∙ c .before .read .given .1)
 
 mul-opened : tie.Need-mul-opened Inv-loop μ-loop
 mul-opened c = omega (arith, team-aimed (c .before .before .before .before .before .before .before .before .before .before .before) .1 .2)

@@ -14,7 +14,7 @@ enum-known-read : tie.Need-enum-known-read
 enum-known-read c = search needs
 
 opened-requires : tie.Need-opened-requires
-opened-requires c κs = read-allowed _ _ (sym (c .before .before .before .read-edit .ensures) ∙ c .before .read .given .1)
+opened-requires c κs = read-allowed _ _ _ (sym (c .before .before .before .read-edit .ensures) ∙ c .before .read .given .1)
 
 enum-known-read-2 : tie.Need-enum-known-read-2
 enum-known-read-2 c = search needs

@@ -1,4 +1,4 @@
--- `frames::decoding::named_twice` meets its contract: every two of the four are compared.
+-- `decoder::decoding::named_twice` meets its contract: every two of the four are compared.
 use mathlib.Core.Path.{sym, _∙_}
 use Rattle.words.specs.Tests.{someHolds}
 use Rattle.frames.proofs.Ranges.{twice-last}

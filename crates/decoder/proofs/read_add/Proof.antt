@@ -1,13 +1,12 @@
--- `frames::decoding::read_add` meets its contract: the first field out of range is some field out of range, and then the repeats are tested.
+-- `decoder::decoding::read_add` meets its contract: the first field out of range is some field out of range, and then the repeats are tested.
 use borrow.Author.Tests.{eq-eqb, ne-eqb}
 use mathlib.Core.Path.{sym, _∙_}
 use mathlib.Core.Bool.{true≢false}
 use denote.Ref.{now}
-use Rattle.edits.specs.declared.Edit.the-variants as Edit
-use Rattle.frames.specs.Requests.{addIn}
+use Rattle.frames.specs.Fields.{anglesFitAt, measureReadAt}
 use Rattle.frames.proofs.Ranges.{first-of, next-of, none-of}
-use Rattle.decoder.proofs.Answered.{field-out, measure-field-out}
-use Rattle.decoder.proofs.Decoded.{refused-10, refused-11, read-as, add-fits, add-decoded, add-repeats}
+use Rattle.decoder.proofs.Answered.{field-out, measure-if-out, measure-if-in}
+use Rattle.decoder.proofs.Decoded.{refused-11, read-as, add-refused, add-read, add-decoded, add-repeats}
 use borrow.Author.Needs.{needs}
 use Rattle.decoder.proofs.read_add.Statement.{statement}
 use Rattle.decoder.proofs.read_add.Tie as tie
@@ -22,10 +21,8 @@ enum-told : tie.Need-enum-told
 enum-told c = search needs
 
 returns : tie.Need-returns
-unfolding addIn
-returns c = let part = now (c .before .before .before .before .args .part) in
-    refused-10 (Edit.Add (addIn part))
-    (λ h. true≢false (sym (add-fits (addIn part) h .passage) ∙ field-out _ _ (sym (c .before .before .passage-field .ensures) ∙ c .enum-told .given .1)))
+returns c = let args = c .before .before .before .before .args in
+    add-refused (args .minutes) (now (args .part)) (λ angles fits. true≢false (sym (fits .passage) ∙ field-out _ _ (sym (c .before .before .passage-field .ensures) ∙ c .enum-told .given .1)))
 
 field-from-one-requires : tie.Need-field-from-one-requires
 field-from-one-requires c κs = search needs
@@ -37,10 +34,8 @@ enum-told-2 : tie.Need-enum-told-2
 enum-told-2 c = search needs
 
 returns-2 : tie.Need-returns-2
-unfolding addIn
-returns-2 c = let part = now (c .before .before .before .before .before .before .before .before .args .part) in
-    refused-10 (Edit.Add (addIn part))
-    (λ h. true≢false (sym (add-fits (addIn part) h .leg) ∙ field-out _ _ (sym (c .before .before .field-from-one .ensures) ∙ c .enum-told2 .given .1)))
+returns-2 c = let args = c .before .before .before .before .before .before .before .before .args in
+    add-refused (args .minutes) (now (args .part)) (λ angles fits. true≢false (sym (fits .leg) ∙ field-out _ _ (sym (c .before .before .field-from-one .ensures) ∙ c .enum-told2 .given .1)))
 
 field-up-to-requires : tie.Need-field-up-to-requires
 field-up-to-requires c κs = search needs
@@ -52,10 +47,8 @@ enum-told-3 : tie.Need-enum-told-3
 enum-told-3 c = search needs
 
 returns-3 : tie.Need-returns-3
-unfolding addIn
-returns-3 c = let part = now (c .before .before .before .before .before .before .before .before .before .before .before .before .args .part) in
-    refused-10 (Edit.Add (addIn part))
-    (λ h. true≢false (sym (add-fits (addIn part) h .newest) ∙ field-out _ _ (sym (c .before .before .field-up-to .ensures) ∙ c .enum-told3 .given .1)))
+returns-3 c = let args = c .before .before .before .before .before .before .before .before .before .before .before .before .args in
+    add-refused (args .minutes) (now (args .part)) (λ angles fits. true≢false (sym (fits .newest) ∙ field-out _ _ (sym (c .before .before .field-up-to .ensures) ∙ c .enum-told3 .given .1)))
 
 sub-field-up-to : tie.Need-sub-field-up-to
 sub-field-up-to c = search needs
@@ -70,16 +63,14 @@ enum-told-4 : tie.Need-enum-told-4
 enum-told-4 c = search needs
 
 returns-4 : tie.Need-returns-4
-unfolding addIn
-returns-4 c = let part = now (c .before .before .before .before .before .before .before .before .before .before .before .before .before .before .before .before .args .part) in
-    refused-10 (Edit.Add (addIn part))
-    (λ h. true≢false (sym (add-fits (addIn part) h .count) ∙ field-out _ _ (sym (c .before .before .field-up-to2 .ensures) ∙ c .enum-told4 .given .1)))
+returns-4 c = let args = c .before .before .before .before .before .before .before .before .before .before .before .before .before .before .before .before .args in
+    add-refused (args .minutes) (now (args .part)) (λ angles fits. true≢false (sym (fits .count) ∙ field-out _ _ (sym (c .before .before .field-up-to2 .ensures) ∙ c .enum-told4 .given .1)))
 
 stations-at-requires : tie.Need-stations-at-requires
 stations-at-requires c κs = search needs
 
-measure-field-requires : tie.Need-measure-field-requires
-measure-field-requires c κs = search needs
+measure-in-requires : tie.Need-measure-in-requires
+measure-in-requires c κs = search needs
 
 enum-known-measure : tie.Need-enum-known-measure
 enum-known-measure c = search needs
@@ -88,49 +79,53 @@ enum-told-5 : tie.Need-enum-told-5
 enum-told-5 c = search needs
 
 returns-5 : tie.Need-returns-5
-unfolding addIn
-returns-5 c = let part = now (c .before .before .before .before .before .before .before .before .before .before .before .before .before .before .before .before .before .before .before .before .before .args .part) in
-    refused-10 (Edit.Add (addIn part))
-    (λ h. true≢false (sym (add-fits (addIn part) h .measure) ∙ measure-field-out _ (sym (c .before .before .measure-field .ensures) ∙ c .enum-told5 .given .1)))
+returns-5 c = let args = c .before .before .before .before .before .before .before .before .before .before .before .before .before .before .before .before .before .before .before .before .before .args in
+    add-refused (args .minutes) (now (args .part)) (λ angles fits. true≢false (sym (fits .measure) ∙ measure-if-out _ _ (sym (c .before .before .measure-in .ensures) ∙ c .enum-told5 .given .1) angles))
 
 returns-6 : tie.Need-returns-6
-returns-6 c = let part = now (c .before .before .before .before .before .before .before .before .before .before .before .before .before .before .before .before .before .before .before .before .before .before .before .before .args .part) in
+returns-6 c = let minutes = c .before .before .before .before .before .before .before .before .before .before .before .before .before .before .before .before .before .before .before .before .before .before .before .before .args .minutes in
+    let part = now (c .before .before .before .before .before .before .before .before .before .before .before .before .before .before .before .before .before .before .before .before .before .before .before .before .args .part) in
+    let (angles, measured) = measure-if-in (anglesFitAt minutes part 14) (measureReadAt minutes part 14) _ (sym (c .before .before .before .before .before .measure-in .ensures) ∙ c .before .before .before .measure .given .1) in
     let (same, fits) =
-    add-decoded part (c .before .before .before .before .before .before .before .before .before .before .before .before .before .before .before .before .before .before .before .before .passage .given .0 .0) (c .before .before .before .before .before .before .before .before .before .before .before .before .before .before .before .before .leg .given .0 .0) (c .before .before .before .before .before .before .before .before .before .before .before .before .newest .given .0 .0) (c .before .before .before .before .before .before .before .before .count .given .0 .0) (c .before .before .before .before .before .before .stations-at .result) (c .before .before .before .measure .given .0 .0)
+    add-decoded part (measureReadAt minutes part 14) (c .before .before .before .before .before .before .before .before .before .before .before .before .before .before .before .before .before .before .before .before .passage .given .0 .0) (c .before .before .before .before .before .before .before .before .before .before .before .before .before .before .before .before .leg .given .0 .0) (c .before .before .before .before .before .before .before .before .before .before .before .before .newest .given .0 .0) (c .before .before .before .before .before .before .before .before .count .given .0 .0) (c .before .before .before .before .before .before .stations-at .result) (c .before .before .before .measure .given .0 .0)
     (sym (c .before .before .before .before .before .before .before .before .before .before .before .before .before .before .before .before .before .before .before .before .before .before .passage-field .ensures) ∙ c .before .before .before .before .before .before .before .before .before .before .before .before .before .before .before .before .before .before .before .before .passage .given .1)
     (sym (c .before .before .before .before .before .before .before .before .before .before .before .before .before .before .before .before .before .before .field-from-one .ensures) ∙ c .before .before .before .before .before .before .before .before .before .before .before .before .before .before .before .before .leg .given .1)
     (sym (c .before .before .before .before .before .before .before .before .before .before .before .before .before .before .field-up-to .ensures) ∙ c .before .before .before .before .before .before .before .before .before .before .before .before .newest .given .1)
     (sym (c .before .before .before .before .before .before .before .before .before .before .field-up-to2 .ensures) ∙ c .before .before .before .before .before .before .before .before .count .given .1)
     (c .before .before .before .before .before .before .stations-at .ensures)
-    (sym (c .before .before .before .before .before .measure-field .ensures) ∙ c .before .before .before .measure .given .1) in
-    refused-11 _ _ same fits (add-repeats _ ∙ first-of _ _ (eq-eqb _ _ (c .if1 .taken)))
+    measured in
+    add-read minutes part angles (refused-11 _ _ same fits (add-repeats _ ∙ first-of _ _ (eq-eqb _ _ (c .if1 .taken))))
 
 named-twice-requires : tie.Need-named-twice-requires
 named-twice-requires c κs = search needs
 
 returns-7 : tie.Need-returns-7
-returns-7 c = let part = now (c .before .before .before .before .before .before .before .before .before .before .before .before .before .before .before .before .before .before .before .before .before .before .before .before .before .before .args .part) in
+returns-7 c = let minutes = c .before .before .before .before .before .before .before .before .before .before .before .before .before .before .before .before .before .before .before .before .before .before .before .before .before .before .args .minutes in
+    let part = now (c .before .before .before .before .before .before .before .before .before .before .before .before .before .before .before .before .before .before .before .before .before .before .before .before .before .before .args .part) in
+    let (angles, measured) = measure-if-in (anglesFitAt minutes part 14) (measureReadAt minutes part 14) _ (sym (c .before .before .before .before .before .before .before .measure-in .ensures) ∙ c .before .before .before .before .before .measure .given .1) in
     let (same, fits) =
-    add-decoded part (c .before .before .before .before .before .before .before .before .before .before .before .before .before .before .before .before .before .before .before .before .before .before .passage .given .0 .0) (c .before .before .before .before .before .before .before .before .before .before .before .before .before .before .before .before .before .before .leg .given .0 .0) (c .before .before .before .before .before .before .before .before .before .before .before .before .before .before .newest .given .0 .0) (c .before .before .before .before .before .before .before .before .before .before .count .given .0 .0) (c .before .before .before .before .before .before .before .before .stations-at .result) (c .before .before .before .before .before .measure .given .0 .0)
+    add-decoded part (measureReadAt minutes part 14) (c .before .before .before .before .before .before .before .before .before .before .before .before .before .before .before .before .before .before .before .before .before .before .passage .given .0 .0) (c .before .before .before .before .before .before .before .before .before .before .before .before .before .before .before .before .before .before .leg .given .0 .0) (c .before .before .before .before .before .before .before .before .before .before .before .before .before .before .newest .given .0 .0) (c .before .before .before .before .before .before .before .before .before .before .count .given .0 .0) (c .before .before .before .before .before .before .before .before .stations-at .result) (c .before .before .before .before .before .measure .given .0 .0)
     (sym (c .before .before .before .before .before .before .before .before .before .before .before .before .before .before .before .before .before .before .before .before .before .before .before .before .passage-field .ensures) ∙ c .before .before .before .before .before .before .before .before .before .before .before .before .before .before .before .before .before .before .before .before .before .before .passage .given .1)
     (sym (c .before .before .before .before .before .before .before .before .before .before .before .before .before .before .before .before .before .before .before .before .field-from-one .ensures) ∙ c .before .before .before .before .before .before .before .before .before .before .before .before .before .before .before .before .before .before .leg .given .1)
     (sym (c .before .before .before .before .before .before .before .before .before .before .before .before .before .before .before .before .field-up-to .ensures) ∙ c .before .before .before .before .before .before .before .before .before .before .before .before .before .before .newest .given .1)
     (sym (c .before .before .before .before .before .before .before .before .before .before .before .before .field-up-to2 .ensures) ∙ c .before .before .before .before .before .before .before .before .before .before .count .given .1)
     (c .before .before .before .before .before .before .before .before .stations-at .ensures)
-    (sym (c .before .before .before .before .before .before .before .measure-field .ensures) ∙ c .before .before .before .before .before .measure .given .1) in
-    refused-11 _ _ same fits (add-repeats _ ∙ next-of _ _ _ (ne-eqb _ _ (c .before .before .if1 .left)) (first-of _ _ (sym (c .before .named-twice .ensures) ∙ c .if2 .taken)))
+    measured in
+    add-read minutes part angles (refused-11 _ _ same fits (add-repeats _ ∙ next-of _ _ _ (ne-eqb _ _ (c .before .before .if1 .left)) (first-of _ _ (sym (c .before .named-twice .ensures) ∙ c .if2 .taken))))
 
 returns-8 : tie.Need-returns-8
-returns-8 c = let part = now (c .before .before .before .before .before .before .before .before .before .before .before .before .before .before .before .before .before .before .before .before .before .before .before .before .before .before .args .part) in
+returns-8 c = let minutes = c .before .before .before .before .before .before .before .before .before .before .before .before .before .before .before .before .before .before .before .before .before .before .before .before .before .before .args .minutes in
+    let part = now (c .before .before .before .before .before .before .before .before .before .before .before .before .before .before .before .before .before .before .before .before .before .before .before .before .before .before .args .part) in
+    let (angles, measured) = measure-if-in (anglesFitAt minutes part 14) (measureReadAt minutes part 14) _ (sym (c .before .before .before .before .before .before .before .measure-in .ensures) ∙ c .before .before .before .before .before .measure .given .1) in
     let (same, fits) =
-    add-decoded part (c .before .before .before .before .before .before .before .before .before .before .before .before .before .before .before .before .before .before .before .before .before .before .passage .given .0 .0) (c .before .before .before .before .before .before .before .before .before .before .before .before .before .before .before .before .before .before .leg .given .0 .0) (c .before .before .before .before .before .before .before .before .before .before .before .before .before .before .newest .given .0 .0) (c .before .before .before .before .before .before .before .before .before .before .count .given .0 .0) (c .before .before .before .before .before .before .before .before .stations-at .result) (c .before .before .before .before .before .measure .given .0 .0)
+    add-decoded part (measureReadAt minutes part 14) (c .before .before .before .before .before .before .before .before .before .before .before .before .before .before .before .before .before .before .before .before .before .before .passage .given .0 .0) (c .before .before .before .before .before .before .before .before .before .before .before .before .before .before .before .before .before .before .leg .given .0 .0) (c .before .before .before .before .before .before .before .before .before .before .before .before .before .before .newest .given .0 .0) (c .before .before .before .before .before .before .before .before .before .before .count .given .0 .0) (c .before .before .before .before .before .before .before .before .stations-at .result) (c .before .before .before .before .before .measure .given .0 .0)
     (sym (c .before .before .before .before .before .before .before .before .before .before .before .before .before .before .before .before .before .before .before .before .before .before .before .before .passage-field .ensures) ∙ c .before .before .before .before .before .before .before .before .before .before .before .before .before .before .before .before .before .before .before .before .before .before .passage .given .1)
     (sym (c .before .before .before .before .before .before .before .before .before .before .before .before .before .before .before .before .before .before .before .before .field-from-one .ensures) ∙ c .before .before .before .before .before .before .before .before .before .before .before .before .before .before .before .before .before .before .leg .given .1)
     (sym (c .before .before .before .before .before .before .before .before .before .before .before .before .before .before .before .before .field-up-to .ensures) ∙ c .before .before .before .before .before .before .before .before .before .before .before .before .before .before .newest .given .1)
     (sym (c .before .before .before .before .before .before .before .before .before .before .before .before .field-up-to2 .ensures) ∙ c .before .before .before .before .before .before .before .before .before .before .count .given .1)
     (c .before .before .before .before .before .before .before .before .stations-at .ensures)
-    (sym (c .before .before .before .before .before .before .before .measure-field .ensures) ∙ c .before .before .before .before .before .measure .given .1) in
-    read-as _ _ same fits (add-repeats _ ∙ next-of _ _ _ (ne-eqb _ _ (c .before .before .if1 .left)) (next-of _ _ _ (sym (c .before .named-twice .ensures) ∙ c .if2 .left) none-of))
+    measured in
+    add-read minutes part angles (read-as _ _ same fits (add-repeats _ ∙ next-of _ _ _ (ne-eqb _ _ (c .before .before .if1 .left)) (next-of _ _ _ (sym (c .before .named-twice .ensures) ∙ c .if2 .left) none-of)))
 
 pub read-add-spec : {M : Type 1} → statement M
 read-add-spec =
@@ -154,7 +149,7 @@ read-add-spec =
     enum-told-4
     returns-4
     stations-at-requires
-    measure-field-requires
+    measure-in-requires
     enum-known-measure
     enum-told-5
     returns-5

@@ -1,4 +1,4 @@
--- `frames::decoding::read_move` meets its contract: the first field out of range is some field out of range, and then the repeats are tested.
+-- `decoder::decoding::read_move` meets its contract: the first field out of range is some field out of range, and then the repeats are tested.
 use borrow.Author.Tests.{eq-eqb, ne-eqb}
 use mathlib.Core.Path.{sym, _∙_}
 use mathlib.Core.Bool.{true≢false}

@@ -1,4 +1,4 @@
--- `frames::decoding::same_leg` meets its contract: 0 names no leg.
+-- `decoder::decoding::same_leg` meets its contract: 0 names no leg.
 use borrow.Author.Tests.{eq-eqb, ne-eqb}
 use Rattle.words.specs.Tests.{allHold}
 use Rattle.frames.proofs.Ranges.{test-alone}

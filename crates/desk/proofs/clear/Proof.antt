@@ -1,4 +1,4 @@
--- `lent::desk::clear` meets its contract: every index stays inside the book.
+-- `desk::desk::clear` meets its contract: every index stays inside the book.
 use borrow.Author.Needs.{needs}
 use mathlib.Core.Path.{_≡_}
 use Prim.Native.Nat.{_-_}

@@ -1,4 +1,4 @@
--- `lent::desk::copy` meets its contract: every index stays inside the copy.
+-- `desk::desk::copy` meets its contract: every index stays inside the copy.
 use borrow.Author.Needs.{needs}
 use mathlib.Core.Path.{_≡_}
 use Prim.Native.Nat.{_-_}

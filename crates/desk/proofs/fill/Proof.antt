@@ -1,4 +1,4 @@
--- `lent::desk::fill` meets its contract: every index stays inside the output.
+-- `desk::desk::fill` meets its contract: every index stays inside the output.
 use borrow.Author.Needs.{needs}
 use mathlib.Core.Path.{_≡_}
 use Prim.Native.Nat.{_-_}

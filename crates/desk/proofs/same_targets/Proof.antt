@@ -1,4 +1,4 @@
--- `lent::desk::same_targets` meets its contract: every target is one of six.
+-- `desk::desk::same_targets` meets its contract: every target is one of six.
 use borrow.Author.Needs.{needs}
 use Prim.Native.Nat.{_-_, _≤_}
 use Rattle.words.specs.Words.{mostTargets}

@@ -1,4 +1,4 @@
--- `lent::desk::tell_tickets` meets its contract: every team is one of sixteen.
+-- `desk::desk::tell_tickets` meets its contract: every team is one of sixteen.
 use borrow.Author.Needs.{needs}
 use Prim.Native.Nat.{_-_, _≤_}
 use Rattle.words.specs.Words.{teamCount}

@@ -1,4 +1,4 @@
--- `lent::desk::tell_words` meets its contract: every index stays inside the book.
+-- `desk::desk::tell_words` meets its contract: every index stays inside the book.
 use borrow.Author.Needs.{needs}
 use Prim.Native.Nat.{_-_, _≤_}
 use lib.ListN.{length}

@@ -1,4 +1,4 @@
--- `frames::writing::put_head` meets its contract: the length and the kind are the first four bytes.
+-- `encoder::writing::put_head` meets its contract: the length and the kind are the first four bytes.
 use mathlib.Core.Path.{refl, ap, _∙_}
 use lib.Seq.{sets}
 use Rattle.frames.specs.Numbers.{Bytes, bytes16}

@@ -1,4 +1,4 @@
--- `frames::writing::write_bare` meets its contract: the length and the kind are all.
+-- `encoder::writing::write_bare` meets its contract: the length and the kind are all.
 use native.Mathlib.Omega.{arith}
 use denote.Ref.{now}
 use mathlib.Core.List.{[]}

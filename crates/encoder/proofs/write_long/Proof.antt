@@ -1,4 +1,4 @@
--- `frames::writing::write_long` meets its contract: the field follows the length and the kind.
+-- `encoder::writing::write_long` meets its contract: the field follows the length and the kind.
 use native.Mathlib.Omega.{arith}
 use denote.Ref.{now}
 use mathlib.Core.Path.{ap, _∙_}

@@ -1,4 +1,4 @@
--- `frames::fields::clino_field` meets its contract: the two tests on the bits are the range of the signed number.
+-- `decoder::fields::clino_field` meets its contract: the two tests on the bits are the range of the signed number.
 use mathlib.Core.Path.{ap, _∙_}
 use Prim.Native.Nat.{ℕ}
 use Rattle.legs.specs.Legs.{clinoInRange}

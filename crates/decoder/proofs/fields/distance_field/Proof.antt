@@ -1,4 +1,4 @@
--- `frames::fields::distance_field` meets its contract: both ends are tested.
+-- `decoder::fields::distance_field` meets its contract: both ends are tested.
 use Rattle.legs.specs.Legs.{longestDistance}
 use Rattle.frames.proofs.Ranges.{within-in, within-below, within-above}
 use borrow.Author.Needs.{needs}

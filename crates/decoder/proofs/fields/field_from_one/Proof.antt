@@ -1,4 +1,4 @@
--- `frames::fields::field_from_one` meets its contract: both ends are tested.
+-- `decoder::fields::field_from_one` meets its contract: both ends are tested.
 use Rattle.frames.proofs.Ranges.{within-in, within-below, within-above}
 use borrow.Author.Needs.{needs}
 use Rattle.decoder.proofs.fields.field_from_one.Statement.{statement}

@@ -1,4 +1,4 @@
--- `frames::fields::field_up_to` meets its contract: the test is the definition's.
+-- `decoder::fields::field_up_to` meets its contract: the test is the definition's.
 use borrow.Author.Tests.{le-leb, lt-leb}
 use borrow.Author.Needs.{needs}
 use Rattle.decoder.proofs.fields.field_up_to.Statement.{statement}

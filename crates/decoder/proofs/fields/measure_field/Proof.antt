@@ -1,4 +1,4 @@
--- `frames::fields::measure_field` meets its contract: M is in range where its three fields are.
+-- `decoder::fields::measure_field` meets its contract: M is in range where its three fields are.
 use mathlib.Core.Path.{sym, ap, _∙_}
 use denote.Ref.{now}
 use mir.Syntax.{w16}

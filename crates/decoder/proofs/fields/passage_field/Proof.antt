@@ -1,4 +1,4 @@
--- `frames::fields::passage_field` meets its contract: up to the last is below the count.
+-- `decoder::fields::passage_field` meets its contract: up to the last is below the count.
 use mathlib.Core.Path.{ap, _∙_}
 use mathlib.Core.Bool.{Bool}
 use denote.Ref.{now}

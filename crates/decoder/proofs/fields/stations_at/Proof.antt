@@ -1,4 +1,4 @@
--- `frames::fields::stations_at` meets its contract: the two numbers read are the fields.
+-- `decoder::fields::stations_at` meets its contract: the two numbers read are the fields.
 use borrow.Author.Needs.{needs}
 use Rattle.decoder.proofs.fields.stations_at.Statement.{statement}
 use Rattle.decoder.proofs.fields.stations_at.Tie as tie

@@ -1,4 +1,4 @@
--- `frames::fields::taken_field` meets its contract: the four are in range where each is.
+-- `decoder::fields::taken_field` meets its contract: the four are in range where each is.
 use mathlib.Core.Path.{sym, _∙_}
 use denote.Ref.{now}
 use mathlib.Core.Bool.{true≢false}

@@ -1,4 +1,4 @@
--- `lent::say::bytes` meets its contract: every index stays inside the bytes.
+-- `desk::say::bytes` meets its contract: every index stays inside the bytes.
 use borrow.Author.Needs.{needs}
 use Prim.Native.Nat.{_-_, _≤_}
 use lib.ListN.{length}

@@ -1,4 +1,4 @@
--- `lent::say::targets` meets its contract: every target is one of six.
+-- `desk::say::targets` meets its contract: every target is one of six.
 use borrow.Author.Needs.{needs}
 use Prim.Native.Nat.{_-_, _≤_}
 use Rattle.words.specs.Words.{mostTargets}

@@ -16,8 +16,16 @@ returns-4 : tie.Need-returns-4
 returns-4 c = rw (c .match .keys4)
 
 returns-5 : tie.Need-returns-5
-returns-5 c = let m = c .match .rest in
+returns-5 c = rw (c .match .keys5)
+
+returns-6 : tie.Need-returns-6
+returns-6 c = rw (c .match .keys6)
+
+returns-7 : tie.Need-returns-7
+returns-7 c = let m = c .match .rest in
     simp (
+      ne-eqb _ _ (m .0 .0 .0 .0 .0 .1),
+      ne-eqb _ _ (m .0 .0 .0 .0 .1),
       ne-eqb _ _ (m .0 .0 .0 .1),
       ne-eqb _ _ (m .0 .0 .1),
       ne-eqb _ _ (m .0 .1),
@@ -25,4 +33,5 @@ returns-5 c = let m = c .match .rest in
     )
 
 pub is-edit-kind-spec : {M : Type 1} → statement M
-is-edit-kind-spec = tie.close (tie.spec returns returns-2 returns-3 returns-4 returns-5)
+is-edit-kind-spec =
+    tie.close (tie.spec returns returns-2 returns-3 returns-4 returns-5 returns-6 returns-7)

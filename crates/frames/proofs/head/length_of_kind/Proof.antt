@@ -1,4 +1,4 @@
--- `frames::head::length_of_kind` meets its contract: each arm is a case of the definition.
+-- `frames::head::length_of_kind` meets its contract: each arm is a row of the table.
 use borrow.Author.Tests.{ne-eqb}
 use Rattle.frames.proofs.head.length_of_kind.Statement.{statement}
 use Rattle.frames.proofs.head.length_of_kind.Tie as tie
@@ -22,8 +22,16 @@ returns-6 : tie.Need-returns-6
 returns-6 c = rw (c .match .keys6)
 
 returns-7 : tie.Need-returns-7
-returns-7 c = let m = c .match .rest in
+returns-7 c = rw (c .match .keys7)
+
+returns-8 : tie.Need-returns-8
+returns-8 c = rw (c .match .keys8)
+
+returns-9 : tie.Need-returns-9
+returns-9 c = let m = c .match .rest in
     simp (
+      ne-eqb _ _ (m .0 .0 .0 .0 .0 .0 .0 .1),
+      ne-eqb _ _ (m .0 .0 .0 .0 .0 .0 .1),
       ne-eqb _ _ (m .0 .0 .0 .0 .0 .1),
       ne-eqb _ _ (m .0 .0 .0 .0 .1),
       ne-eqb _ _ (m .0 .0 .0 .1),
@@ -34,4 +42,14 @@ returns-7 c = let m = c .match .rest in
 
 pub length-of-kind-spec : {M : Type 1} → statement M
 length-of-kind-spec =
-    tie.close (tie.spec returns returns-2 returns-3 returns-4 returns-5 returns-6 returns-7)
+    tie.close
+    (tie.spec
+    returns
+    returns-2
+    returns-3
+    returns-4
+    returns-5
+    returns-6
+    returns-7
+    returns-8
+    returns-9)
