@@ -60,7 +60,7 @@ fn the_twelve_bench_examples() {
     assert_eq!(fresh_answer(&[(Clino, 9_001)]), Answer::Refused(10), "5");
     assert_eq!(fresh_answer(&[(Distance, 0)]), Answer::Refused(10), "6");
     assert_eq!(fresh_answer(&[(Distance, 100_000)]), Answer::Standing(5), "7");
-    assert_eq!((position(50), position(0)), (0, 6), "8 and 9");
+    assert_eq!((position(&RANKS, 50), position(&RANKS, 0)), (0, 6), "8 and 9");
     example_ten();
     let strike = [(P, 0), (F, 1), (R, 1), (S, 0), (C, 1), (From, 1), (To, 2), (Distance, 1)];
     let strike = Request::new(Kind::Strike, &strike);
@@ -95,7 +95,7 @@ fn ranks_are_a_permutation_and_positions_differ() {
     let mut ranks = RANKS.to_vec();
     ranks.sort();
     assert_eq!(ranks, (0..32).collect::<Vec<i64>>());
-    let mut positions: Vec<i64> = (0..WORDS).map(position).collect();
+    let mut positions: Vec<i64> = (0..WORDS).map(|word| position(&RANKS, word)).collect();
     positions.sort();
     assert_eq!(positions, (0..WORDS).collect::<Vec<i64>>());
 }

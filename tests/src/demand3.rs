@@ -3,7 +3,7 @@
 
 use crate::frames::{parse, split, Answer, Field::*, Kind, Request};
 use crate::layout::*;
-use crate::model::targets;
+use crate::model::listed_targets;
 use std::collections::BTreeMap;
 
 /// "number, from, to, distance, compass, clino"
@@ -50,6 +50,18 @@ fn fed(edit: &Request) -> Request {
 fn angle(degrees: i64, minutes: i64) -> i64 {
     let rest = [0, 2, 3][(minutes % 3) as usize];
     100 * degrees + 5 * (minutes / 3) + rest
+}
+
+/// The words of a ticket as they are claimed, by a rule of its own: rank after rank the
+/// words of the passage that has it, then those of legs by their numbers.
+fn in_claim_order(words: &[i64], ranks: &[i64]) -> Vec<i64> {
+    let passage = |rank: i64| ranks.iter().position(|own| *own == rank);
+    let passages = (0..PASSAGES).filter_map(passage).map(|p| p as i64);
+    let own = passages.flat_map(|p| [newest_word(p), count_word(p)]);
+    let mut of_legs: Vec<i64> =
+        words.iter().copied().filter(|word| *word >= 2 * PASSAGES).collect();
+    of_legs.sort();
+    own.filter(|word| words.contains(word)).chain(of_legs).collect()
 }
 
 impl Leg {
@@ -193,7 +205,8 @@ impl Plain {
 struct Heard {
     /// The edit or view that opened it.
     opener: Request,
-    /// Its words by rising position.
+    /// Its words by rising position, by the ranks in force at its Standing: later loads
+    /// leave them.
     words: Vec<i64>,
     /// Whether the edit succeeded on the plain book, once decided.
     decided: Option<bool>,
@@ -228,6 +241,8 @@ impl Heard {
 #[derive(Clone, Debug)]
 pub struct Watch {
     pub plain: Plain,
+    /// The ranks in force: the fixed ones, and from a load on those loaded.
+    pub ranks: Vec<i64>,
     teams: BTreeMap<i64, Heard>,
     /// The counts' sum in the book last come back to, and what was granted since.
     kept: i64,
@@ -247,7 +262,8 @@ fn demand(holds: bool, complaint: impl FnOnce() -> String) -> Verdict {
 
 impl Watch {
     pub fn new() -> Watch {
-        Watch { plain: Plain::fresh(), teams: BTreeMap::new(), kept: 0, adds: 0, strikes: 0 }
+        let (plain, ranks, teams) = (Plain::fresh(), RANKS.to_vec(), BTreeMap::new());
+        Watch { plain, ranks, teams, kept: 0, adds: 0, strikes: 0 }
     }
 
     /// Whether no ticket was heard to stand.
@@ -255,9 +271,24 @@ impl Watch {
         self.teams.is_empty()
     }
 
+    /// The teams that were heard to have a ticket.
+    pub fn busy_teams(&self) -> Vec<i64> {
+        self.teams.keys().copied().collect()
+    }
+
+    /// "They are accepted exactly when each number 0 to 31 occurs and no ticket stands":
+    /// a load has no place in the order, but none where a ticket stands.
+    pub fn load(&mut self, ranks: &[i64]) -> Verdict {
+        demand(self.is_idle(), || "ranks are loaded while a ticket stands".to_string())?;
+        let each = (0..PASSAGES).all(|rank| ranks.iter().filter(|own| **own == rank).count() == 1);
+        demand(each && ranks.len() == 32, || format!("ranks {ranks:?} are loaded"))?;
+        self.ranks = ranks.to_vec();
+        Ok(())
+    }
+
     /// "coming back takes its place in the order and makes the plain book that of the
     /// filling. From then on the counts sum to the kept book's sum plus the adds
-    /// granted since, less the strikes granted since."
+    /// granted since, less the strikes granted since." The ranks stay those now in force.
     pub fn come_back(&mut self, filling: &Plain) {
         self.plain = filling.clone();
         (self.kept, self.adds, self.strikes) = (filling.legs(), 0, 0);
@@ -308,7 +339,8 @@ impl Watch {
     /// "A ticket's edit is the edit frame that opened it, answered Standing." A
     /// view "opens with Standing, n".
     fn hear_opener(&mut self, opener: Request, answer: Answer) -> Verdict {
-        let words: Vec<i64> = targets(&opener).iter().map(|target| target.word).collect();
+        let words: Vec<i64> = listed_targets(&opener).iter().map(|target| target.word).collect();
+        let words = in_claim_order(&words, &self.ranks);
         let standing = answer == Answer::Standing(words.len() as i64);
         demand(standing, || format!("{opener} is answered {answer}"))?;
         demand(!self.is_busy(opener.team()), || "a second ticket stands".to_string())?;

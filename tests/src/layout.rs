@@ -12,7 +12,8 @@ pub const TEAMS: i64 = 16;
 /// Named in place of a team where a mark is no team's: "else 65,535".
 pub const NOBODY: i64 = 65_535;
 
-/// "Passages carry a rank. For p = 0 to 31: ..."
+/// "Passages carry a rank. For p = 0 to 31: ..." The fixed ranks, in whose place "the
+/// caller may load 32 ranks".
 pub const RANKS: [i64; 32] = [
     3, 8, 13, 18, 23, 28, 1, 6, 11, 16, 21, 26, 31, 4, 9, 14, 19, 24, 29, 2, 7, 12, 17, 22, 27, 0,
     5, 10, 15, 20, 25, 30,
@@ -76,11 +77,16 @@ pub fn measure_word(r: i64) -> i64 {
     link_word(r) + 2
 }
 
+/// "They are accepted exactly when each number 0 to 31 occurs", and they are 32.
+pub fn accepted(ranks: &[i64]) -> bool {
+    ranks.len() as i64 == PASSAGES && (0..PASSAGES).all(|rank| ranks.contains(&rank))
+}
+
 /// "Word 2p has position 2 x rank, word 2p + 1 one more. A leg's word has its
 /// own number as position."
-pub fn position(word: i64) -> i64 {
+pub fn position(ranks: &[i64], word: i64) -> i64 {
     if word < 2 * PASSAGES {
-        2 * RANKS[(word / 2) as usize] + word % 2
+        2 * ranks[(word / 2) as usize] + word % 2
     } else {
         word
     }

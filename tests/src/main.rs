@@ -10,8 +10,10 @@ mod frames;
 mod layout;
 mod lent;
 mod lists;
+mod loads;
 mod mixed;
 mod model;
+mod ranks;
 mod rounds;
 mod serve;
 mod shelves;
@@ -31,7 +33,7 @@ const USAGE: &str = "usage:
   tests stored DIR [--check]
   tests lent FILE [--check]
   tests books DIR [--check]
-  tests lists DIR [--check | --wrong FAULT]
+  tests lists DIR [--check | --seed N | --wrong FAULT]
   tests serve [--wrong FAULT]";
 
 fn main() -> ExitCode {
@@ -61,10 +63,11 @@ fn run(words: &[&str]) -> Result<String, String> {
         ["lent", file, "--check"] => lent::check(&read_text(file)?),
         ["books", dir] => store_books(Path::new(dir)),
         ["books", dir, "--check"] => check_books(Path::new(dir)),
-        ["lists", dir] => store_lists(Path::new(dir)),
+        ["lists", dir] => store_lists(Path::new(dir), 0),
+        ["lists", dir, "--seed", number] => store_lists(Path::new(dir), 1_000 * parsed(number)?),
         ["lists", dir, "--check"] => check_lists(Path::new(dir)),
         ["lists", dir, "--wrong", name] => {
-            let fault = shelves::named(name).ok_or(USAGE)?;
+            let fault = lists::named(name).ok_or(USAGE)?;
             wrong_lists(Path::new(dir), fault)
         }
         ["serve"] => serve_as(None),
@@ -158,8 +161,8 @@ fn check_books(dir: &Path) -> Result<String, String> {
 }
 
 /// Writes a mixed list of calls, and what the model says of each.
-fn store_lists(dir: &Path) -> Result<String, String> {
-    let input = mixed::stored();
+fn store_lists(dir: &Path, seed: u64) -> Result<String, String> {
+    let input = mixed::list(seed);
     let failed = |error: std::io::Error| error.to_string();
     fs::create_dir_all(dir).map_err(failed)?;
     let output = lists::answered(&lists::calls_of(&input)?, None);
@@ -179,7 +182,7 @@ fn check_lists(dir: &Path) -> Result<String, String> {
 }
 
 /// Complains of the first line that a wrong program has otherwise.
-fn wrong_lists(dir: &Path, fault: shelves::Fault) -> Result<String, String> {
+fn wrong_lists(dir: &Path, fault: lists::Fault) -> Result<String, String> {
     let (input, output) = read_lists(dir)?;
     lists::same(&output, &lists::answered(&lists::calls_of(&input)?, Some(fault)))?;
     Ok("the stored list doesn't tell this fault".to_string())

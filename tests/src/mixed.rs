@@ -1,10 +1,13 @@
-//! Mixed lists written: teams at work, shelves filled and come back to in between.
+//! Mixed lists written: teams at work, shelves filled and come back to, and ranks loaded in
+//! between.
 
 use crate::demand3::Watch;
 use crate::frames::{split, Request};
 use crate::layout::WORDS;
 use crate::lists::Call;
+use crate::loads;
 use crate::model::Desk;
+use crate::ranks;
 use crate::rounds::ORDERS;
 use crate::shelves::{Lent, SHELVES, STORE};
 use crate::streams::{Author, Prng};
@@ -18,25 +21,25 @@ struct Filling {
 }
 
 /// Writes a mixed list, and listens to what the model answers to it.
-struct ListAuthor {
-    author: Author,
+pub struct ListAuthor {
+    pub author: Author,
     kept: BTreeMap<i64, Filling>,
-    calls: Vec<Call>,
+    pub calls: Vec<Call>,
 }
 
 impl ListAuthor {
-    fn new(seed: u64) -> ListAuthor {
+    pub fn new(seed: u64) -> ListAuthor {
         let author = Author::new(seed);
         let calls = vec![Call::Begin(seed as i64 % 7 * 9_001)];
         ListAuthor { author, kept: BTreeMap::new(), calls }
     }
 
-    fn rng(&mut self) -> &mut Prng {
+    pub fn rng(&mut self) -> &mut Prng {
         &mut self.author.rng
     }
 
     /// Takes over the frames that the author says.
-    fn saying(&mut self, say: impl FnOnce(&mut Author)) {
+    pub fn saying(&mut self, say: impl FnOnce(&mut Author)) {
         self.author.bytes.clear();
         say(&mut self.author);
         for frame in split(&self.author.bytes) {
@@ -45,16 +48,16 @@ impl ListAuthor {
         }
     }
 
-    fn contend(&mut self, frames: i64) {
+    pub fn contend(&mut self, frames: i64) {
         self.saying(|author| author.contend(frames));
     }
 
-    fn finish(&mut self) {
+    pub fn finish(&mut self) {
         let order = self.rng().pick(&ORDERS);
         self.saying(|author| author.finish_all(order));
     }
 
-    fn fill(&mut self, shelf: i64) {
+    pub fn fill(&mut self, shelf: i64) {
         self.calls.push(Call::Fill(Lent::WHOLE, shelf));
         if self.author.desk.tickets.is_empty() && shelf < SHELVES {
             let (desk, watch) = (self.author.desk.clone(), self.author.watch.clone());
@@ -62,27 +65,56 @@ impl ListAuthor {
         }
     }
 
-    /// Whether it went.
-    fn come_back(&mut self, shelf: i64) -> bool {
+    /// Whether it went. The ranks stay those now in force.
+    pub fn come_back(&mut self, shelf: i64) -> bool {
         self.calls.push(Call::ComeBack(Lent::WHOLE, shelf));
         let Some(filling) = self.kept.get(&shelf) else { return false };
         let goes = self.author.desk.tickets.is_empty();
         if goes {
-            self.author.desk = filling.desk.clone();
+            let ranks = self.author.desk.ranks.clone();
             self.author.watch = filling.watch.clone();
+            self.author.watch.ranks = ranks.clone();
+            self.author.desk = Desk { ranks, ..filling.desk.clone() };
         }
         goes
     }
 
-    /// The first frames since the filling again: they must fare as they did then.
-    fn repeat(&mut self, shelf: i64, most: usize) {
+    /// Loads ranks; whether it went.
+    pub fn load(&mut self, ranks: &[i64]) -> bool {
+        self.calls.push(Call::load(ranks));
+        let goes = ranks::load(&mut self.author.desk, WORDS, ranks, None) == 0;
+        if goes {
+            self.author.watch.load(ranks).expect("the model loads as the paper says");
+        }
+        goes
+    }
+
+    /// Lends other ranks, to frames that follow.
+    pub fn lend(&mut self, ranks: &[i64]) {
+        self.calls.push(Call::Lend(ranks.to_vec()));
+        self.author.desk.ranks = ranks.to_vec();
+        self.author.watch.ranks = ranks.to_vec();
+    }
+
+    /// The first frames since the filling again: under the ranks of the filling they must
+    /// fare as they did then.
+    pub fn repeat(&mut self, shelf: i64, most: usize) {
         let Some(filling) = self.kept.get(&shelf) else { return };
         let frames: Vec<Vec<u8>> = filling.since.iter().take(most).cloned().collect();
         self.saying(|author| frames.iter().for_each(|frame| drop(author.say(frame))));
     }
 
-    fn tell(&mut self) {
+    pub fn tell(&mut self) {
         self.calls.push(Call::Tell);
+    }
+
+    /// Some ranks that may be accepted: most are, others have a number twice or too large,
+    /// or are too few or too many.
+    fn some_ranks(&mut self) -> Vec<i64> {
+        let ranks = loads::permutation(self.rng());
+        let damages = loads::damaged(self.rng(), &ranks);
+        let at = self.rng().below(3 * damages.len() as i64) as usize;
+        damages.get(at).cloned().unwrap_or(ranks)
     }
 
     /// A call that is refused for what it is lent: 1, 2, 19, or one of them and more.
@@ -101,10 +133,10 @@ impl ListAuthor {
         self.calls.push(call);
     }
 
-    /// One call about shelves, or some frames.
+    /// One call about shelves or ranks, or some frames.
     fn turn(&mut self) {
         let (shelf, frames) = (self.rng().below(5), self.rng().between(1, 25));
-        match self.rng().below(10) {
+        match self.rng().below(14) {
             0 => self.fill(shelf),
             1 => drop(self.come_back(shelf)),
             2 => self.lent_otherwise(),
@@ -120,12 +152,23 @@ impl ListAuthor {
                 }
                 self.tell();
             }
+            7 => {
+                let ranks = self.some_ranks();
+                self.load(&ranks);
+            }
+            8 | 9 => {
+                self.finish();
+                let ranks = self.some_ranks();
+                self.load(&ranks);
+                self.tell();
+            }
+            10 => loads::damage_for_a_while(self),
             _ => self.contend(frames),
         }
     }
 }
 
-/// Teams at work, shelves filled and come back to in between.
+/// Teams at work, shelves filled and come back to and ranks loaded in between.
 pub fn contended(seed: u64, turns: i64) -> Vec<Call> {
     let mut list = ListAuthor::new(seed);
     (0..turns).for_each(|_| list.turn());
@@ -219,11 +262,51 @@ pub fn twin_cases(seed: u64) -> Vec<Call> {
     [&calls[..], &calls[..filling], &calls[back..]].concat()
 }
 
-/// The list stored.
-pub fn stored() -> Vec<u8> {
+/// The same with ranks loaded before the filling, between it and the coming back, and
+/// later: the run that ended at the filling loads there those now in force.
+pub fn twin_cases_with_loads(seed: u64) -> Vec<Call> {
+    let mut list = ListAuthor::new(seed);
+    let shelf = seed as i64 % SHELVES;
+    let work = |list: &mut ListAuthor, frames: i64| {
+        list.contend(frames);
+        list.finish();
+        let ranks = loads::permutation(list.rng());
+        list.load(&ranks);
+    };
+    work(&mut list, 60);
+    list.contend(20);
+    list.finish();
+    list.fill(shelf);
+    let filling = list.calls.len();
+    work(&mut list, 60);
+    work(&mut list, 40);
+    let now = Call::load(&list.author.desk.ranks);
+    list.contend(30);
+    // A load that is refused leaves the ranks that the twin is given.
+    let refused = loads::permutation(list.rng());
+    list.saying(|author| author.crowd());
+    list.load(&refused);
+    list.finish();
+    list.come_back(shelf);
+    let back = list.calls.len();
+    list.tell();
+    list.repeat(shelf, 30);
+    list.contend(60);
+    work(&mut list, 20);
+    list.contend(40);
+    list.finish();
+    list.tell();
+    let ListAuthor { calls, .. } = list;
+    [&calls[..], &calls[..filling], &[now], &calls[back..]].concat()
+}
+
+/// The list stored, whose seed is 0, or another.
+pub fn list(seed: u64) -> Vec<u8> {
     let mut calls = every_check();
-    (11..=13).for_each(|seed| calls.extend(in_turn(seed)));
-    (21..=26).for_each(|seed| calls.extend(twin_cases(seed)));
-    (31..=37).for_each(|seed| calls.extend(contended(seed, 36)));
+    (11..=13).for_each(|salt| calls.extend(in_turn(seed + salt)));
+    (21..=26).for_each(|salt| calls.extend(twin_cases(seed + salt)));
+    (31..=37).for_each(|salt| calls.extend(contended(seed + salt, 44)));
+    (41..=46).for_each(|salt| calls.extend(twin_cases_with_loads(seed + salt)));
+    calls.extend(loads::about_ranks(seed));
     calls.iter().flat_map(Call::bytes).collect()
 }

@@ -1,6 +1,6 @@
 //! The second model: "Edits", "Tickets and steps", "Frames refused, in checking
 //! order" and "The program survey", and of document 02 "Words seen together", "Who
-//! holds the word", "Plumb legs" and "Old instruments in minutes".
+//! holds the word", "Plumb legs", "The cave's own ranks" and "Old instruments in minutes".
 
 use crate::frames::{any_twice, next, parse, Answer, Field::*, Kind, Next, Request};
 use crate::layout::*;
@@ -74,13 +74,13 @@ pub fn listed_targets(request: &Request) -> Vec<Target> {
     }
 }
 
-/// "Targets are claimed by rising position."
-pub fn targets(request: &Request) -> Vec<Target> {
-    targets_by(request, position)
+/// "Targets are claimed by rising position", by the ranks in force.
+pub fn targets(request: &Request, ranks: &[i64]) -> Vec<Target> {
+    targets_by(request, |word| position(ranks, word))
 }
 
 /// The targets in some order of their words. A view's list of names stays as it is.
-pub fn targets_by(request: &Request, order: fn(i64) -> i64) -> Vec<Target> {
+pub fn targets_by(request: &Request, order: impl Fn(i64) -> i64) -> Vec<Target> {
     let listed = listed_targets(request);
     let mut targets = listed.clone();
     targets.sort_by_key(|target| order(target.word));
@@ -120,9 +120,10 @@ pub const OUTPUT: usize = 52;
 
 impl Ticket {
     /// "An edit opens it claiming, its targets stored by rising position, with
-    /// nothing claimed or done and tries 0". So does a view.
-    pub fn opened(request: &Request) -> Ticket {
-        let targets = targets(request);
+    /// nothing claimed or done and tries 0". So does a view. The order is kept, whatever
+    /// ranks are in force later.
+    pub fn opened(request: &Request, ranks: &[i64]) -> Ticket {
+        let targets = targets(request, ranks);
         let phase = if request.kind == Kind::View { Phase::Viewing } else { Phase::Claiming };
         Ticket { phase, n: targets.len() as i64, claimed: 0, done: 0, tries: 0, targets }
     }
@@ -179,20 +180,24 @@ impl Ticket {
     }
 }
 
-/// Book and tickets, as a caller lends them.
+/// Book, tickets and the ranks in force, as a caller lends them: "nothing else writes"
+/// the ranks but a load, but a caller may lend any.
 #[derive(Clone, Debug, PartialEq, Eq)]
 pub struct Desk {
     pub book: Vec<Word>,
     pub tickets: BTreeMap<i64, Ticket>,
+    pub ranks: Vec<i64>,
 }
 
 /// What a desk answers to a frame, or what a wrong program with that desk does.
 pub type Answering<'a> = &'a dyn Fn(&mut Desk, &[u8]) -> Answer;
 
 impl Desk {
-    /// "a fresh book of 4,096 zero words", "Fresh: all empty, no ticket."
+    /// "a fresh book of 4,096 zero words", "Fresh: all empty, no ticket." The fixed
+    /// ranks are in force.
     pub fn fresh() -> Desk {
-        Desk { book: vec![Word::Value(0); WORDS as usize], tickets: BTreeMap::new() }
+        let book = vec![Word::Value(0); WORDS as usize];
+        Desk { book, tickets: BTreeMap::new(), ranks: RANKS.to_vec() }
     }
 
     /// The call: what it returns; what it writes is in `output`.
@@ -200,24 +205,38 @@ impl Desk {
         self.call_answered(&Desk::answer, frame, output)
     }
 
-    /// The call of a program that may be wrong where neither 1 nor 2 applies.
+    /// The call of a program that may be wrong where none of 1, 13 and 2 applies.
     pub fn call_answered(&mut self, answering: Answering, frame: &[u8], output: &mut [u8]) -> i64 {
+        match self.refused_alone(output) {
+            Some(number) => number,
+            None => self.write(answering, frame, output),
+        }
+    }
+
+    /// The first refusal that is returned and not written, whatever the frame.
+    pub fn refused_alone(&self, output: &[u8]) -> Option<i64> {
         // "1. The book isn't 4,096 words long."
         if self.book.len() as i64 != WORDS {
-            return 1;
+            return Some(1);
+        }
+        // "13, not 32 ranks or not each of 0 to 31, after 1", and "a frame given while
+        // the ranks aren't each of 0 to 31 returns 13 and writes nothing".
+        if !accepted(&self.ranks) {
+            return Some(13);
         }
         // "2. The output is shorter than 12 bytes", and now 52.
-        if output.len() < OUTPUT {
-            return 2;
-        }
-        // "The call returns the bytes written; later bytes of the output keep
-        // their contents."
+        (output.len() < OUTPUT).then_some(2)
+    }
+
+    /// "The call returns the bytes written; later bytes of the output keep their
+    /// contents."
+    pub fn write(&mut self, answering: Answering, frame: &[u8], output: &mut [u8]) -> i64 {
         let bytes = answering(self, frame).bytes();
         output[..bytes.len()].copy_from_slice(&bytes);
         bytes.len() as i64
     }
 
-    /// The answer where neither 1 nor 2 applies.
+    /// The answer where none of 1, 13 and 2 applies.
     pub fn answer(&mut self, frame: &[u8]) -> Answer {
         match self.understood(frame) {
             Err(number) => Answer::Refused(number),
@@ -262,7 +281,7 @@ impl Desk {
 
     /// "... and changes no word (Standing)."
     fn open(&mut self, request: &Request) -> Answer {
-        let ticket = Ticket::opened(request);
+        let ticket = Ticket::opened(request, &self.ranks);
         let n = ticket.n;
         self.tickets.insert(request.team(), ticket);
         Answer::Standing(n)
@@ -388,7 +407,7 @@ impl Desk {
 
 /// "It starts from a fresh book of 4,096 zero words, reads frames from standard
 /// input to its end and writes each answer. A torn last frame, or a length field
-/// above 62, gives Refused 3 and stops it."
+/// above 62, gives Refused 3 and stops it." It lends the fixed ranks throughout.
 pub fn survey(input: &[u8]) -> Vec<u8> {
     let mut desk = Desk::fresh();
     let mut output = Vec::new();

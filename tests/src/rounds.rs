@@ -128,7 +128,9 @@ mod tests {
     use super::*;
     use crate::checks::opposite_moves;
     use crate::frames::{split, Field::*, Kind};
-    use crate::layout::TEAMS;
+    use crate::layout::{TEAMS, WORDS};
+    use crate::loads::permutation;
+    use crate::ranks;
     use crate::streams::Author;
     use crate::wrong::{self, Fault};
     use std::collections::BTreeMap;
@@ -271,6 +273,62 @@ mod tests {
             waiting += i64::from(course.steps.len() as i64 > course.bound);
         }
         assert!(waiting > 100, "{waiting} of 280 courses have more steps than two for each target");
+    }
+
+    /// Ranks loaded first: "the finishing of all tickets included, holds for each accepted
+    /// table".
+    #[test]
+    fn tickets_get_done_by_other_ranks() {
+        for (seed, order) in (0..20).flat_map(|seed| ORDERS.map(|order| (seed, order))) {
+            let mut author = Author::new(seed);
+            author.contend(100);
+            author.finish_all(order);
+            let ranks = permutation(&mut author.rng);
+            assert_eq!(ranks::load(&mut author.desk, WORDS, &ranks, None), 0);
+            author.watch.load(&ranks).expect("no ticket stands");
+            author.contend(100);
+            author.crowd();
+            let mut desk = author.desk.clone();
+            run(&mut desk, &Desk::answer, order, &mut Prng::new(seed)).unwrap();
+        }
+    }
+
+    /// Two opposite moves in every order, by ranks that go either way.
+    #[test]
+    fn opposite_moves_by_other_ranks() {
+        for (p, q) in [(0, 25), (31, 6)] {
+            for exchanged in [false, true] {
+                let mut desk = Desk::fresh();
+                if exchanged {
+                    desk.ranks.swap(p as usize, q as usize);
+                }
+                let input = opposite_moves(p, q);
+                split(&input).iter().for_each(|frame| drop(desk.answer(frame)));
+                assert_eq!(longest_of(&desk), Some(12), "{p} and {q}");
+            }
+        }
+    }
+
+    /// Why a load waits for tickets: one of two opposite moves opened before it and one
+    /// after it can have the word that the other wants, for ever.
+    #[test]
+    fn a_load_over_a_ticket_lets_moves_block_each_other() {
+        let (p, q) = (0, 25);
+        let input = opposite_moves(p, q);
+        let frames = split(&input);
+        let (second, before) = frames.split_last().expect("two moves");
+        let mut desk = Desk::fresh();
+        before.iter().for_each(|frame| drop(desk.answer(frame)));
+        let mut exchanged = desk.ranks.clone();
+        exchanged.swap(p as usize, q as usize);
+        assert_eq!(ranks::load(&mut desk, WORDS, &exchanged, None), 14);
+        let wrong = Some(ranks::Fault::LoadOverTicket);
+        assert_eq!(ranks::load(&mut desk, WORDS, &exchanged, wrong), 0);
+        desk.answer(second);
+        assert_eq!(longest_of(&desk), None);
+        let complaint =
+            run(&mut desk, &Desk::answer, Order::Rising, &mut Prng::new(5)).unwrap_err();
+        assert!(complaint.ends_with("all wait"));
     }
 
     /// Views of few words, so that each is wanted by many, some of them begun.

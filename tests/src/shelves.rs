@@ -41,10 +41,6 @@ pub const FAULTS: [(&str, Fault); 8] = [
     ("never-filled", Fault::NeverFilled),
 ];
 
-pub fn named(name: &str) -> Option<Fault> {
-    FAULTS.iter().find(|(known, _)| *known == name).map(|(_, fault)| *fault)
-}
-
 /// How many words of book and store a call is lent.
 #[derive(Clone, Copy, Debug, PartialEq, Eq)]
 pub struct Lent {
@@ -116,7 +112,8 @@ impl Shelves {
         0
     }
 
-    /// "Coming back to a shelf restores every word as kept." 0, or the refusal.
+    /// "Coming back to a shelf restores every word as kept." 0, or the refusal. The
+    /// ranks stay as they are: "under the ranks now in force".
     pub fn come_back(&mut self, desk: &mut Desk, lent: Lent, shelf: i64) -> i64 {
         let never = !self.filled.contains(&shelf) && !self.is(Fault::NeverFilled);
         if let Some(number) = self.refusal(desk, lent, shelf >= SHELVES || never) {

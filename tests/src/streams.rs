@@ -281,7 +281,7 @@ fn next_leg(site: &Site, now: i64) -> i64 {
 }
 
 /// An edit with every field in range and no two legs alike.
-fn a_fair_edit(kind: Kind) -> Request {
+pub fn a_fair_edit(kind: Kind) -> Request {
     let mut edit = Request::new(kind, &[(P, 1), (Q, 2), (F, 3), (R, 4), (S, 5), (H, 6)]);
     set(&mut edit, &[(C, 1), (D, 1), (From, 1), (To, 2)]);
     set(&mut edit, &[(Distance, 1), (NewDistance, 1)]);
@@ -289,7 +289,7 @@ fn a_fair_edit(kind: Kind) -> Request {
 }
 
 /// Requests of each kind, and views of each length, that aren't refused.
-fn fair_requests() -> Vec<Request> {
+pub fn fair_requests() -> Vec<Request> {
     let edits = [Kind::Add, Kind::Correct, Kind::Strike, Kind::Move].map(a_fair_edit);
     let edits = edits.into_iter().chain(Kind::IN_MINUTES.map(a_fair_edit));
     let views = (1..=6).map(|n| Request::view(0, &[50, 1, 0, 13, 64, 4_094][..n]));
@@ -434,7 +434,7 @@ impl Author {
     }
 
     /// Steps till the team has no ticket; nobody else must be at work.
-    fn finish(&mut self, team: i64) {
+    pub fn finish(&mut self, team: i64) {
         while self.watch.is_busy(team) {
             self.say(&Request::step(team).bytes());
         }
@@ -490,7 +490,7 @@ impl Author {
     }
 
     /// Says an edit or a view, and ends its ticket if there is one now.
-    fn settle(&mut self, opener: &Request) {
+    pub fn settle(&mut self, opener: &Request) {
         self.say(&opener.bytes());
         self.finish(opener.team());
     }
@@ -610,7 +610,7 @@ impl Author {
 
     /// A leg added in one form, corrected to another and back with its figures quoted
     /// in the other form, and struck.
-    fn two_forms(&mut self, angles: [i64; 5]) {
+    pub fn two_forms(&mut self, angles: [i64; 5]) {
         let (p, r) = (self.site.passages[0], self.site.legs[0]);
         for minutes_first in [true, false] {
             let mut added = add(&mut self.rng, &self.watch.plain, 0, p, r);
@@ -640,7 +640,7 @@ impl Author {
     /// Two legs that change places between two passages, their moves opposite and
     /// claimed in turn. Where the passages' ranks and numbers rise differently, the
     /// first claim by position is not the first by word number.
-    fn cross(&mut self, p: i64, q: i64) {
+    pub fn cross(&mut self, p: i64, q: i64) {
         let legs = self.rng.some(2, 1, LEGS);
         for (passage, r) in [(p, legs[0]), (q, legs[1])] {
             let added = add(&mut self.rng, &self.watch.plain, 0, passage, r);

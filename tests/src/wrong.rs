@@ -211,7 +211,7 @@ pub fn answer(fault: Fault, desk: &mut Desk, frame: &[u8]) -> Answer {
         (Fault::StrikesItself, Answer::Refused(11), None)
             if request.kind == Kind::Strike && request.get(F) == request.get(R) =>
         {
-            let ticket = Ticket::opened(&request);
+            let ticket = Ticket::opened(&request, &desk.ranks);
             desk.tickets.insert(team, ticket);
             return Answer::Standing(5);
         }

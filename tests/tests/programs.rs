@@ -113,6 +113,9 @@ fn the_stored_lists_are_checked() {
     assert!(tests(&["lists", name]).status.success());
     let wrong = tests(&["lists", name, "--wrong", "first-filling"]);
     assert!(!wrong.status.success() && said(&wrong).contains("program: store"));
+    let wrong = tests(&["lists", name, "--wrong", "load-forgotten"]);
+    assert!(!wrong.status.success() && said(&wrong).contains("program: ranks 32 3 8 13"));
+    assert!(said(&tests(&["lists", name, "--wrong", "no-such-fault"])).contains("usage"));
     let output = std::fs::read_to_string(dir.join("stdout")).expect("stored");
     std::fs::write(dir.join("stdout"), output.replacen("19", "14", 1)).expect("written");
     assert!(!tests(&["lists", name, "--check"]).status.success());

@@ -3,7 +3,7 @@
 
 #![forbid(unsafe_code)]
 
-use plain::{Book, LONGEST_FRAME, SLACK};
+use plain::{Book, Ranks, LONGEST_FRAME, SLACK};
 use std::fs::File;
 use std::io::{self, ErrorKind, Read, Write};
 use std::os::fd::AsFd;
@@ -26,7 +26,7 @@ fn main() -> io::Result<()> {
             Ok(0) => break,
             Ok(more) => filled += more,
         }
-        let progress = book.answer_all(&input, filled, &mut output);
+        let progress = book.answer_all(&Ranks::FIXED, &input, filled, &mut output);
         answers.write_all(&output[..progress.written])?;
         if progress.stopped {
             return Ok(());

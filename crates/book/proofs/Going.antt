@@ -11,6 +11,7 @@ use lib.ListN.{length, length-drop}
 use Rattle.words.specs.Tests.{allHold, distinct}
 use Rattle.words.specs.Words.{Words, wordsInBook, teamCount, mostTargets}
 use Rattle.words.proofs.Tests.{split}
+use Rattle.legs.specs.Positions.{Ranks}
 use Rattle.tickets.specs.declared.Phase.{Phase}
 use Rattle.tickets.specs.declared.Phase.the-variants.{NoTicket, Claiming, Putting, GivingBack, Viewing, Viewed}
 use Rattle.tickets.specs.declared.Ticket.{Ticket}
@@ -129,28 +130,28 @@ edit-stands Viewing edit = absurd (false≢true edit)
 edit-stands Viewed edit = absurd (false≢true edit)
 
 -- A team's frame, by its ticket and kind.
-module _ (words : Words) (ticket : Ticket) (part : Bytes) (kind team : ℕ) where
-  pub team-badly-made : hasTicket (ticket .phase) ≡ true → wellMade ticket ≡ false → _≡_ {A = Settled × Words} (settledWith ticket (Answer.Refused 7), words) (teamSettled words ticket part kind team)
+module _ (words : Words) (ticket : Ticket) (ranks : Ranks) (part : Bytes) (kind team : ℕ) where
+  pub team-badly-made : hasTicket (ticket .phase) ≡ true → wellMade ticket ≡ false → _≡_ {A = Settled × Words} (settledWith ticket (Answer.Refused 7), words) (teamSettled words ticket ranks part kind team)
   unfolding teamSettled
   team-badly-made h w = rw (h, w) refl
 
-  pub team-steps : hasTicket (ticket .phase) ≡ true → wellMade ticket ≡ true → kind ≡ stepKind → stepSettled (stepOf words ticket team) ≡ teamSettled words ticket part kind team
+  pub team-steps : hasTicket (ticket .phase) ≡ true → wellMade ticket ≡ true → kind ≡ stepKind → stepSettled (stepOf words ticket team) ≡ teamSettled words ticket ranks part kind team
   unfolding teamSettled
   team-steps h w e = rw (h, w, eq-eqb kind stepKind e) refl
 
-  pub team-stands : hasTicket (ticket .phase) ≡ true → wellMade ticket ≡ true → (kind ≡ stepKind → ⊥) → _≡_ {A = Settled × Words} (settledWith ticket (Answer.Refused 8), words) (teamSettled words ticket part kind team)
+  pub team-stands : hasTicket (ticket .phase) ≡ true → wellMade ticket ≡ true → (kind ≡ stepKind → ⊥) → _≡_ {A = Settled × Words} (settledWith ticket (Answer.Refused 8), words) (teamSettled words ticket ranks part kind team)
   unfolding teamSettled
   team-stands h w n = rw (h, w, ne-eqb kind stepKind n) refl
 
-  pub team-without : hasTicket (ticket .phase) ≡ false → kind ≡ stepKind → _≡_ {A = Settled × Words} (settledWith ticket (Answer.Refused 9), words) (teamSettled words ticket part kind team)
+  pub team-without : hasTicket (ticket .phase) ≡ false → kind ≡ stepKind → _≡_ {A = Settled × Words} (settledWith ticket (Answer.Refused 9), words) (teamSettled words ticket ranks part kind team)
   unfolding teamSettled
   team-without h e = rw (h, eq-eqb kind stepKind e) refl
 
-  pub team-opens-view : hasTicket (ticket .phase) ≡ false → kind ≡ viewKind → _≡_ {A = Settled × Words} (viewSettled ticket (viewRead (number16 part 2) (viewWordsIn part)), words) (teamSettled words ticket part kind team)
+  pub team-opens-view : hasTicket (ticket .phase) ≡ false → kind ≡ viewKind → _≡_ {A = Settled × Words} (viewSettled ticket ranks (viewRead (number16 part 2) (viewWordsIn part)), words) (teamSettled words ticket ranks part kind team)
   unfolding teamSettled newSettled
   team-opens-view h e = rw (h, ne-eqb kind stepKind (λ step. omega (arith, step, e)), eq-eqb kind viewKind e) refl
 
-  pub team-opens-edit : opensEdit ticket kind ≡ true → _≡_ {A = Settled × Words} (openSettled ticket (readEdit kind part), words) (teamSettled words ticket part kind team)
+  pub team-opens-edit : opensEdit ticket kind ≡ true → _≡_ {A = Settled × Words} (openSettled ticket ranks (readEdit kind part), words) (teamSettled words ticket ranks part kind team)
   unfolding teamSettled newSettled
   team-opens-edit opens =
       let (edit, none) = opens-said ticket kind opens in
@@ -173,13 +174,13 @@ module _ (words : Words) (ticket : Ticket) (part : Bytes) (kind team : ℕ) wher
   view-fields e known = rw (eq-eqb kind viewKind e) at (known .fields)
 
 -- An edit read opens its ticket, whose number of targets Standing tells.
-pub opened-settles : (ticket : Ticket) (edit : Edit) → settledWith (openedTicket edit) (Answer.Standing (openedTicket edit .n)) ≡ openSettled ticket (EditRead.Is edit)
+pub opened-settles : (ticket : Ticket) (ranks : Ranks) (edit : Edit) → settledWith (openedTicket ranks edit) (Answer.Standing (openedTicket ranks edit .n)) ≡ openSettled ticket ranks (EditRead.Is edit)
 unfolding openSettled openedTicket
-opened-settles ticket edit = ap (λ (n : ℕ). settledWith (openedTicket edit) (Answer.Standing n)) (targets-counted edit .1)
+opened-settles ticket ranks edit = ap (λ (n : ℕ). settledWith (openedTicket ranks edit) (Answer.Standing n)) (targets-counted ranks edit .1)
 
-pub refused-settles : (ticket : Ticket) (number : ℕ) → settledWith ticket (Answer.Refused number) ≡ openSettled ticket (EditRead.Refused number)
+pub refused-settles : (ticket : Ticket) (ranks : Ranks) (number : ℕ) → settledWith ticket (Answer.Refused number) ≡ openSettled ticket ranks (EditRead.Refused number)
 unfolding openSettled
-refused-settles ticket number = refl
+refused-settles ticket ranks number = refl
 
 -- A view that is read is fine, and is the words read.
 pub view-read-fine : (n : ℕ) (words : List ℕ) (read : ViewRead) → 1 ≤ length words → length words ≤ mostTargets → read ≡ viewRead n words → read .reading ≡ Reading.Is
@@ -208,19 +209,19 @@ view-read-opens part read fields e is =
     (same ∙ ap viewOf (sym named), subst FineView (sym named) fine)
 
 -- A view read, by its reading.
-pub view-opened : (ticket : Ticket) (read : ViewRead) → read .reading ≡ Reading.Is → readingSettled ticket (read .view) Reading.Is ≡ viewSettled ticket read
+pub view-opened : (ticket : Ticket) (ranks : Ranks) (read : ViewRead) → read .reading ≡ Reading.Is → readingSettled ticket ranks (read .view) Reading.Is ≡ viewSettled ticket ranks read
 unfolding viewSettled
-view-opened ticket read is = ap (readingSettled ticket (read .view)) (sym is)
+view-opened ticket ranks read is = ap (readingSettled ticket ranks (read .view)) (sym is)
 
-pub view-refused : (ticket : Ticket) (read : ViewRead) (number : ℕ) → read .reading ≡ Reading.Refused number → settledWith ticket (Answer.Refused number) ≡ viewSettled ticket read
+pub view-refused : (ticket : Ticket) (ranks : Ranks) (read : ViewRead) (number : ℕ) → read .reading ≡ Reading.Refused number → settledWith ticket (Answer.Refused number) ≡ viewSettled ticket ranks read
 unfolding viewSettled
-view-refused ticket read number is = ap (readingSettled ticket (read .view)) (sym is)
+view-refused ticket ranks read number is = ap (readingSettled ticket ranks (read .view)) (sym is)
 
 -- So does a view.
-pub view-settles : (ticket : Ticket) (view : View) → FineView (wordsNamed view) → view ≡ viewOf (wordsNamed view)
-    → settledWith (openedView (wordsNamed view)) (Answer.Standing (openedView (wordsNamed view) .n)) ≡ readingSettled ticket view Reading.Is
-view-settles ticket view fine is =
-    ap (λ (n : ℕ). settledWith (openedView (wordsNamed view)) (Answer.Standing n)) (opened-views-hold-words (wordsNamed view) fine .many ∙ (λ i. sym is i .n))
+pub view-settles : (ticket : Ticket) (ranks : Ranks) (view : View) → FineView (wordsNamed view) → view ≡ viewOf (wordsNamed view)
+    → settledWith (openedView ranks (wordsNamed view)) (Answer.Standing (openedView ranks (wordsNamed view) .n)) ≡ readingSettled ticket ranks view Reading.Is
+view-settles ticket ranks view fine is =
+    ap (λ (n : ℕ). settledWith (openedView ranks (wordsNamed view)) (Answer.Standing n)) (opened-views-hold-words ranks (wordsNamed view) fine .many ∙ (λ i. sym is i .n))
 
 -- Every known frame has room for the first field of its part.
 pub team-inside : (frame : Bytes) (kind : ℕ) → Whole frame kind → 1 < length (partAfterKind frame)
@@ -254,48 +255,48 @@ gone-after ticket (EditAnswer.Granted tries) ends = refl
 gone-after ticket (EditAnswer.Stale word tries) ends = refl
 
 -- What a refused frame and a look settle.
-pub refused-by : (words : Words) (ticket : Ticket) (frame : Bytes) (number : ℕ) → _≡_ {A = Settled × Words} (settledWith ticket (Answer.Refused number), words) (settledBy words ticket frame (Aim.Refused number))
+pub refused-by : (words : Words) (ticket : Ticket) (ranks : Ranks) (frame : Bytes) (number : ℕ) → _≡_ {A = Settled × Words} (settledWith ticket (Answer.Refused number), words) (settledBy words ticket ranks frame (Aim.Refused number))
 unfolding settledBy
-refused-by words ticket frame number = refl
+refused-by words ticket ranks frame number = refl
 
-pub look-by : (words : Words) (ticket : Ticket) (frame : Bytes) (word : ℕ) → word ≡ number16 (partAfterKind frame) 0
-    → _≡_ {A = Settled × Words} (settledWith ticket (lookAnswer words word), words) (settledBy words ticket frame Aim.Look)
+pub look-by : (words : Words) (ticket : Ticket) (ranks : Ranks) (frame : Bytes) (word : ℕ) → word ≡ number16 (partAfterKind frame) 0
+    → _≡_ {A = Settled × Words} (settledWith ticket (lookAnswer words word), words) (settledBy words ticket ranks frame Aim.Look)
 unfolding settledBy lookSettled
-look-by words ticket frame word is = λ i. (settledWith ticket (lookAnswer words (is i)), words)
+look-by words ticket ranks frame word is = λ i. (settledWith ticket (lookAnswer words (is i)), words)
 
 -- A team's frame whose ticket is stepped: what the swap found settles it.
-pub step-by : (words : Words) (ticket : Ticket) (frame : Bytes) (kind team found : ℕ) {after : Ticket} {answer : StepAnswer} {swapped : Words}
+pub step-by : (words : Words) (ticket : Ticket) (ranks : Ranks) (frame : Bytes) (kind team found : ℕ) {after : Ticket} {answer : StepAnswer} {swapped : Words}
     → hasTicket (ticket .phase) ≡ true → wellMade ticket ≡ true → kind ≡ stepKind
     → _≡_ {A = Stepped × Words} (Steps.settled ticket found, swapped) (stepOf words ticket team)
     → Steps.stepped after answer ≡ Steps.settled ticket found
-    → _≡_ {A = Settled × Words} (settledWith after (Answer.Step answer), swapped) (settledBy words ticket frame (Aim.Team kind team))
+    → _≡_ {A = Settled × Words} (settledWith after (Answer.Step answer), swapped) (settledBy words ticket ranks frame (Aim.Team kind team))
 unfolding settledBy
-step-by words ticket frame kind team found {swapped = swapped} stands made step swaps settles =
-    ap stepSettled ((λ i. (settles i, swapped)) ∙ swaps) ∙ team-steps words ticket (partAfterKind frame) kind team stands made step
+step-by words ticket ranks frame kind team found {swapped = swapped} stands made step swaps settles =
+    ap stepSettled ((λ i. (settles i, swapped)) ∙ swaps) ∙ team-steps words ticket ranks (partAfterKind frame) kind team stands made step
 
 -- An edit that opens a ticket, read from the part after its kind, or refused.
-module _ (words : Words) (ticket : Ticket) (frame : Bytes) (kind team : ℕ) (part : Bytes) (read : EditRead) (opens : opensEdit ticket kind ≡ true) (after : part ≡ partAfterKind frame) (is-read : read ≡ readEdit kind part) where
-  reads-by : _≡_ {A = Settled × Words} (openSettled ticket read, words) (settledBy words ticket frame (Aim.Team kind team))
+module _ (words : Words) (ticket : Ticket) (ranks : Ranks) (frame : Bytes) (kind team : ℕ) (part : Bytes) (read : EditRead) (opens : opensEdit ticket kind ≡ true) (after : part ≡ partAfterKind frame) (is-read : read ≡ readEdit kind part) where
+  reads-by : _≡_ {A = Settled × Words} (openSettled ticket ranks read, words) (settledBy words ticket ranks frame (Aim.Team kind team))
   unfolding settledBy
   reads-by =
-      (λ i. (openSettled ticket (is-read i), words))
-      ∙ (λ i. (openSettled ticket (readEdit kind (after i)), words))
-      ∙ team-opens-edit words ticket (partAfterKind frame) kind team opens
+      (λ i. (openSettled ticket ranks (is-read i), words))
+      ∙ (λ i. (openSettled ticket ranks (readEdit kind (after i)), words))
+      ∙ team-opens-edit words ticket ranks (partAfterKind frame) kind team opens
 
-  pub opened-by : (edit : Edit) (opened : Ticket) → read ≡ EditRead.Is edit → opened ≡ openedTicket edit
-      → _≡_ {A = Settled × Words} (settledWith opened (Answer.Standing (opened .n)), words) (settledBy words ticket frame (Aim.Team kind team))
+  pub opened-by : (edit : Edit) (opened : Ticket) → read ≡ EditRead.Is edit → opened ≡ openedTicket ranks edit
+      → _≡_ {A = Settled × Words} (settledWith opened (Answer.Standing (opened .n)), words) (settledBy words ticket ranks frame (Aim.Team kind team))
   opened-by edit opened is opens-it =
       (λ i. (settledWith (opens-it i) (Answer.Standing (opens-it i .n)), words))
-      ∙ (λ i. (opened-settles ticket edit i, words))
-      ∙ (λ i. (openSettled ticket (sym is i), words))
+      ∙ (λ i. (opened-settles ticket ranks edit i, words))
+      ∙ (λ i. (openSettled ticket ranks (sym is i), words))
       ∙ reads-by
 
-  pub unopened-by : (number : ℕ) → read ≡ EditRead.Refused number → _≡_ {A = Settled × Words} (settledWith ticket (Answer.Refused number), words) (settledBy words ticket frame (Aim.Team kind team))
-  unopened-by number is = (λ i. (refused-settles ticket number i, words)) ∙ (λ i. (openSettled ticket (sym is i), words)) ∙ reads-by
+  pub unopened-by : (number : ℕ) → read ≡ EditRead.Refused number → _≡_ {A = Settled × Words} (settledWith ticket (Answer.Refused number), words) (settledBy words ticket ranks frame (Aim.Team kind team))
+  unopened-by number is = (λ i. (refused-settles ticket ranks number i, words)) ∙ (λ i. (openSettled ticket ranks (sym is i), words)) ∙ reads-by
 
 -- Any other frame of a team.
-pub team-by : (words : Words) (ticket : Ticket) (frame : Bytes) (kind team : ℕ) (part : Bytes) {done : Settled} {swapped : Words} → part ≡ partAfterKind frame
-    → _≡_ {A = Settled × Words} (done, swapped) (teamSettled words ticket part kind team)
-    → _≡_ {A = Settled × Words} (done, swapped) (settledBy words ticket frame (Aim.Team kind team))
+pub team-by : (words : Words) (ticket : Ticket) (ranks : Ranks) (frame : Bytes) (kind team : ℕ) (part : Bytes) {done : Settled} {swapped : Words} → part ≡ partAfterKind frame
+    → _≡_ {A = Settled × Words} (done, swapped) (teamSettled words ticket ranks part kind team)
+    → _≡_ {A = Settled × Words} (done, swapped) (settledBy words ticket ranks frame (Aim.Team kind team))
 unfolding settledBy
-team-by words ticket frame kind team part after settles = settles ∙ ap (λ l. teamSettled words ticket l kind team) after
+team-by words ticket ranks frame kind team part after settles = settles ∙ ap (λ l. teamSettled words ticket ranks l kind team) after

@@ -9,6 +9,7 @@ use borrow.Author.Tests.{eq-eqb}
 use lib.Dec.{eqb}
 use lib.ListN.{getD, set}
 use Rattle.words.specs.Words.{Words, teamCount, mostTargets, isHeld}
+use Rattle.legs.specs.Positions.{Ranks}
 use Rattle.tickets.specs.declared.Phase.{Phase}
 use Rattle.tickets.specs.declared.Phase.the-variants.{NoTicket, Claiming, Putting, GivingBack, Viewing, Viewed}
 use Rattle.tickets.specs.declared.Ticket.{Ticket}
@@ -119,44 +120,44 @@ else-view Viewed stands other = refl
 abbrev Rests : Ticket → Ticket → Type 0
 Rests ticket after = (after ≡ ticket) ⊎ (isEdit (after .phase) ≡ false)
 
-view-rests : (ticket : Ticket) (read : ViewRead) → Rests ticket (viewSettled ticket read .ticket)
+view-rests : (ticket : Ticket) (ranks : Ranks) (read : ViewRead) → Rests ticket (viewSettled ticket ranks read .ticket)
 unfolding viewSettled openedView
-view-rests ticket read = go (read .reading)
+view-rests ticket ranks read = go (read .reading)
   where
-    go : (reading : Reading) → Rests ticket (readingSettled ticket (read .view) reading .ticket)
+    go : (reading : Reading) → Rests ticket (readingSettled ticket ranks (read .view) reading .ticket)
     go Reading.Is = inr refl
     go (Reading.Refused number) = inl refl
 
-team-rests : (words : Words) (ticket : Ticket) (part : Bytes) (kind team : ℕ) → TeamFrame words part kind team → stepsEdit ticket true kind ≡ false → opensEdit ticket kind ≡ false
-    → Rests ticket (teamSettled words ticket part kind team .0 .ticket)
+team-rests : (words : Words) (ticket : Ticket) (ranks : Ranks) (part : Bytes) (kind team : ℕ) → TeamFrame words part kind team → stepsEdit ticket true kind ≡ false → opensEdit ticket kind ≡ false
+    → Rests ticket (teamSettled words ticket ranks part kind team .0 .ticket)
 unfolding teamSettled newSettled
-team-rests words ticket part kind team known no-step no-edit =
+team-rests words ticket ranks part kind team known no-step no-edit =
     go (hasTicket (ticket .phase)) (wellMade ticket) (eqb kind stepKind) (eqb kind viewKind) refl refl refl
   where
     no-edits : eqb kind stepKind ≡ true → isEdit (ticket .phase) ≡ false
     no-edits step = sym (ap (λ (b : Bool). cond b (isEdit (ticket .phase)) false) step) ∙ no-step
 
     view : hasTicket (ticket .phase) ≡ false → eqb kind stepKind ≡ false → eqb kind viewKind ≡ true
-    view none other = eq-eqb kind viewKind (view-kind words ticket part kind team no-edit none (λ step. false≢true (sym other ∙ eq-eqb kind stepKind step)) known)
+    view none other = eq-eqb kind viewKind (view-kind words ticket ranks part kind team no-edit none (λ step. false≢true (sym other ∙ eq-eqb kind stepKind step)) known)
 
     go : (stands made step viewed : Bool) → hasTicket (ticket .phase) ≡ stands → eqb kind stepKind ≡ step → eqb kind viewKind ≡ viewed
         → Rests ticket ((cond {A = Settled × Words} stands
         (cond made (cond step (stepSettled (stepOf words ticket team)) (settledWith ticket (Answer.Refused 8), words)) (settledWith ticket (Answer.Refused 7), words))
         (cond step (settledWith ticket (Answer.Refused 9), words)
-        (cond viewed (viewSettled ticket (viewRead (number16 part 2) (viewWordsIn part))) (openSettled ticket (readEdit kind part)), words))) .0 .ticket)
+        (cond viewed (viewSettled ticket ranks (viewRead (number16 part 2) (viewWordsIn part))) (openSettled ticket ranks (readEdit kind part)), words))) .0 .ticket)
     go true true true viewed s k v = inr (view-steps words ticket team (else-view (ticket .phase) s (no-edits k)))
     go true true false viewed s k v = inl refl
     go true false step viewed s k v = inl refl
     go false made true viewed s k v = inl refl
-    go false made false true s k v = view-rests ticket (viewRead (number16 part 2) (viewWordsIn part))
+    go false made false true s k v = view-rests ticket ranks (viewRead (number16 part 2) (viewWordsIn part))
     go false made false false s k v = absurd (false≢true (sym v ∙ view s k))
 
-pub shows-rest : (mirror : List ℕ) (words : Words) (ticket : Ticket) (part : Bytes) (kind team : ℕ) {done : Settled} {after : Words} → TeamFrame words part kind team → stepsEdit ticket true kind ≡ false → opensEdit ticket kind ≡ false
-    → _≡_ {A = Settled × Words} (done, after) (teamSettled words ticket part kind team) → ShowsEdit mirror team ticket → ShowsEdit mirror team (done .ticket)
-shows-rest mirror words ticket part kind team {done} known no-step no-edit settles shows =
-    subst (ShowsEdit mirror team) (λ i. sym settles i .0 .ticket) (by (team-rests words ticket part kind team known no-step no-edit))
+pub shows-rest : (mirror : List ℕ) (words : Words) (ticket : Ticket) (ranks : Ranks) (part : Bytes) (kind team : ℕ) {done : Settled} {after : Words} → TeamFrame words part kind team → stepsEdit ticket true kind ≡ false → opensEdit ticket kind ≡ false
+    → _≡_ {A = Settled × Words} (done, after) (teamSettled words ticket ranks part kind team) → ShowsEdit mirror team ticket → ShowsEdit mirror team (done .ticket)
+shows-rest mirror words ticket ranks part kind team {done} known no-step no-edit settles shows =
+    subst (ShowsEdit mirror team) (λ i. sym settles i .0 .ticket) (by (team-rests words ticket ranks part kind team known no-step no-edit))
   where
-    by : Rests ticket (teamSettled words ticket part kind team .0 .ticket) → ShowsEdit mirror team (teamSettled words ticket part kind team .0 .ticket)
+    by : Rests ticket (teamSettled words ticket ranks part kind team .0 .ticket) → ShowsEdit mirror team (teamSettled words ticket ranks part kind team .0 .ticket)
     by (inl same) = subst (ShowsEdit mirror team) (sym same) shows
     by (inr other) = λ inside edit. absurd (false≢true (sym other ∙ edit))
 

@@ -6,6 +6,7 @@ use mathlib.Core.Bool.{Bool, true, false}
 use borrow.Author.Tests.{lt-ltb}
 use mathlib.Core.List.{List}
 use lib.ListN.{length, take, drop}
+use Rattle.legs.specs.Positions.{Ranks, Accepted}
 use Rattle.words.specs.Words.{Words, wordsInBook}
 use Rattle.tickets.specs.declared.Ticket.{Ticket}
 use Rattle.tickets.specs.declared.Tickets.{Tickets}
@@ -37,27 +38,28 @@ abbrev pub Point : {A : Type 0} {B : A → Type 0} → ((c : A) → B c) → Typ
 Point {A} shown = A
 
 -- What the definition makes of what is left, for as many frames as may come: at most one for each byte.
-pub record Left (input : Bytes) (all : Streamed × Words × Bytes) (words : Words) (out : Bytes) (tickets : Tickets) (at filled : ℕ) : Type 0 where
+pub record Left (ranks : Ranks) (input : Bytes) (all : Streamed × Words × Bytes) (words : Words) (out : Bytes) (tickets : Tickets) (at filled : ℕ) : Type 0 where
   pub most : ℕ
   pub enough : length input - at ≤ most
-  pub is : streamFrom most words tickets input out at filled ≡ all
+  pub is : streamFrom most words tickets ranks input out at filled ≡ all
 
 -- The loop's invariant: what the definition makes of what is left is what it makes of the whole; and where all tickets are known to be well made they stay so, and the mirror shows those of edits.
-abbrev pub Goes : Bytes → ℕ → Streamed × Words × Bytes → Bool → Words → Bytes → Tickets → List ℕ → ℕ → ℕ → Type 0
-Goes input long all known words out tickets mirror at filled =
+abbrev pub Goes : Ranks → Bytes → ℕ → Streamed × Words × Bytes → Bool → Words → Bytes → Tickets → List ℕ → ℕ → ℕ → Type 0
+Goes ranks input long all known words out tickets mirror at filled =
     (length words ≡ wordsInBook)
     × (at ≤ length input)
     × (filled ≤ length out)
     × (length out ≡ long)
-    × Left input all words out tickets at filled
+    × Left ranks input all words out tickets at filled
     × (known ≡ true → TableWellMade tickets)
     × (known ≡ true → ShowsEdits mirror tickets)
+    × Accepted ranks
 
 -- Where no byte is left it has ended.
-pub ended : (most : ℕ) (words : Words) (tickets : Tickets) (input out : Bytes) (at filled : ℕ) → length input ≤ at → streamFrom most words tickets input out at filled ≡ (streamed tickets at filled MoreInput, words, out)
+pub ended : (most : ℕ) (words : Words) (tickets : Tickets) (ranks : Ranks) (input out : Bytes) (at filled : ℕ) → length input ≤ at → streamFrom most words tickets ranks input out at filled ≡ (streamed tickets at filled MoreInput, words, out)
 unfolding streamFrom nextAt
-ended zero words tickets input out at filled none = refl
-ended (suc most) words tickets input out at filled none = rw (lt-ltb (length input - at) 2 (omega arith)) refl
+ended zero words tickets ranks input out at filled none = refl
+ended (suc most) words tickets ranks input out at filled none = rw (lt-ltb (length input - at) 2 (omega arith)) refl
 
 -- The aim of a frame, and what is known by it.
 abbrev pub Aimed : Bytes → Aim → Type 0
@@ -68,6 +70,7 @@ aimed-as frame aimed is = (sym is ∙ aimed .0, subst (AimKnown frame) is (aimed
 
 -- What the code has where it answers a frame: the invariant, the frame found, room for its answer, and its aim.
 pub record Turn : Type 0 where
+  pub ranks : Ranks
   pub input : Bytes
   pub long : ℕ
   pub all : Streamed × Words × Bytes
@@ -78,7 +81,7 @@ pub record Turn : Type 0 where
   pub mirror : List ℕ
   pub at : ℕ
   pub filled : ℕ
-  pub goes : Goes input long all known words out tickets mirror at filled
+  pub goes : Goes ranks input long all known words out tickets mirror at filled
   pub bytes : areBytes input ≡ true
   pub some : at < length input
   pub found : Next
@@ -104,7 +107,7 @@ ticketIn turn = ticketOf (turn .tickets) (slotIn turn)
 
 -- What the aimed frame settles.
 abbrev pub settledIn : Turn → Settled × Words
-settledIn turn = settledBy (turn .words) (ticketIn turn) (frameIn turn) (turn .aim)
+settledIn turn = settledBy (turn .words) (ticketIn turn) (turn .ranks) (frameIn turn) (turn .aim)
 
 -- The ticket in its slot is well made, where all are known to be.
 pub slot-known-made : (turn : Turn) → turn .known ≡ true → SlotWellMade (ticketIn turn)
@@ -143,7 +146,7 @@ module _ (turn : Turn) (mirror : List ℕ) {done : Settled} {after : Words} {nex
       → (turn .known ≡ true → ShowsEdits mirror next)
       → length after ≡ wordsInBook
       → PutAt (turn .out) (turn .filled) (answerFrame (done .answer)) place output
-      → Goes (turn .input) (turn .long) (turn .all) (turn .known) after output next mirror (turn .at + turn .size) place
+      → Goes (turn .ranks) (turn .input) (turn .long) (turn .all) (turn .known) after output next mirror (turn .at + turn .size) place
   turned settles stored shown whole ((counted, fits), (filled, long)) =
       let frame-is : frameIn turn ≡ take (turn .size) (drop (turn .at) (turn .input)) = ap (λ (k : ℕ). take k (drop (turn .at) (turn .input))) (streaming.add-less (turn .at) (turn .size)) in
       let frame-bytes = bytes-before (turn .at + turn .size - turn .at) (drop (turn .at) (turn .input)) (bytes-after (turn .at) (turn .input) (turn .bytes)) in
@@ -159,14 +162,15 @@ module _ (turn : Turn) (mirror : List ℕ) {done : Settled} {after : Words} {nex
           most = left .most - 1;
           enough = omega (arith, enough, inside .0, inside .1);
           is =
-              streaming.turn (turn .words) (turn .tickets) next (turn .input) (turn .out) (turn .at) (turn .filled) (left .most) (turn .size) (turn .aim) (slotIn turn) done after (done .answer) place output
-              some (sym (turn .found-is .0) ∙ turn .sized) (turn .room) (turn .goes .0)
-              (turn .aimed .0 ∙ ap aimOf frame-is) refl (settles ∙ ap (λ f. settledBy (turn .words) (ticketIn turn) f (turn .aim)) frame-is) stored refl counted filled
+              streaming.turn (turn .words) (turn .tickets) next (turn .ranks) (turn .input) (turn .out) (turn .at) (turn .filled) (left .most) (turn .size) (turn .aim) (slotIn turn) done after (done .answer) place output
+              some (sym (turn .found-is .0) ∙ turn .sized) (turn .room) (turn .goes .0) (turn .goes .7)
+              (turn .aimed .0 ∙ ap aimOf frame-is) refl (settles ∙ ap (λ f. settledBy (turn .words) (ticketIn turn) (turn .ranks) f (turn .aim)) frame-is) stored refl counted filled
               ∙ left .is;
         },
         λ known.
             subst TableWellMade (sym stored)
             (with-well-made (turn .tickets) (slotIn turn) (done .ticket) (turn .goes .5 known)
-            (subst SlotWellMade (λ i. sym settles i .0 .ticket) (settled-well-made (turn .words) (ticketIn turn) (frameIn turn) (turn .aim) (turn .aimed .1) frame-bytes (slot-known-made turn known)))),
+            (subst SlotWellMade (λ i. sym settles i .0 .ticket) (settled-well-made (turn .words) (ticketIn turn) (turn .ranks) (frameIn turn) (turn .aim) (turn .aimed .1) frame-bytes (slot-known-made turn known)))),
         shown,
+        turn .goes .7,
       )

@@ -4,6 +4,7 @@ ghost use mathlib.Core.Bool.{Bool, true, false};
 ghost use Prim.Native.Nat.{_+_, _-_, _≤_, _<_};
 ghost use lib.ListN.{length};
 ghost use Rattle.words.specs.Words.{wordsInBook, teamCount, mostTargets};
+ghost use Rattle.legs.specs.Positions.{Accepted};
 ghost use Rattle.tickets.specs.Tickets.{isView, wellMade};
 ghost use Rattle.tickets.specs.Steps.{asStep, afterAnswer, AnswerFits, stepOf};
 ghost use Rattle.tickets.specs.Going.{nextOf, wentAnswer};
@@ -95,14 +96,14 @@ fn look_at(book: &[u64], word: u16) -> Answer
     Answer::Refused(Refusal::RANGE)
 }
 
-fn open_edit(ticket: Ticket, part: &[u8], kind: u16) -> Settled
-    requires { ⌜ EditFields (now part) kind ⌝ }
-    ensures { λ r. ⌜ r ≡ openSettled ticket (readEdit kind (now (part .entry))) ⌝ }
+fn open_edit(ticket: Ticket, ranks: &[u16], part: &[u8], kind: u16) -> Settled
+    requires { ⌜ EditFields (now part) kind × Accepted (now ranks) ⌝ }
+    ensures { λ r. ⌜ r ≡ openSettled ticket (now (ranks .entry)) (readEdit kind (now (part .entry))) ⌝ }
 {
     let read = decoder::read_edit(kind, part);
     match read {
         EditRead::Is(edit) => {
-            let opened = edits::opened(edit);
+            let opened = edits::opened(edit, ranks);
             Settled {
                 ticket: opened,
                 answer: Answer::Standing(opened.n),
@@ -115,16 +116,16 @@ fn open_edit(ticket: Ticket, part: &[u8], kind: u16) -> Settled
     }
 }
 
-fn open_view(ticket: Ticket, part: &[u8]) -> Settled
-    requires { ⌜ ViewFields (now part) ⌝ }
-    ensures { λ r. ⌜ r ≡ viewSettled ticket (viewRead (number16 (now (part .entry)) 2) (viewWordsIn (now (part .entry)))) ⌝ }
+fn open_view(ticket: Ticket, ranks: &[u16], part: &[u8]) -> Settled
+    requires { ⌜ ViewFields (now part) × Accepted (now ranks) ⌝ }
+    ensures { λ r. ⌜ r ≡ viewSettled ticket (now (ranks .entry)) (viewRead (number16 (now (part .entry)) 2) (viewWordsIn (now (part .entry)))) ⌝ }
 {
     let read = decoder::read_view(part);
     let view = read.view;
     let reading = read.reading;
     match reading {
         Reading::Is => {
-            let opened = edits::open_view(view);
+            let opened = edits::open_view(view, ranks);
             Settled {
                 ticket: opened,
                 answer: Answer::Standing(opened.n),
@@ -250,12 +251,13 @@ fn team_frame(
     book: &mut [u64],
     ticket: Ticket,
     known: bool,
+    ranks: &[u16],
     part: &[u8],
     kind: u16,
     team: u16,
 ) -> Settled
-    requires { ⌜ TeamFrame (now book) (now part) kind team × (known ≡ true → SlotWellMade ticket) × (opensEdit ticket kind ≡ false) ⌝ }
-    ensures { λ r. ⌜ (r, now (book .exit)) ≡ teamSettled (now (book .entry)) ticket (now (part .entry)) kind team ⌝ }
+    requires { ⌜ TeamFrame (now book) (now part) kind team × (known ≡ true → SlotWellMade ticket) × (opensEdit ticket kind ≡ false) × Accepted (now ranks) ⌝ }
+    ensures { λ r. ⌜ (r, now (book .exit)) ≡ teamSettled (now (book .entry)) ticket (now (ranks .entry)) (now (part .entry)) kind team ⌝ }
 {
     if ticket.stands() {
         if !known_well_made(ticket, known) {
@@ -269,24 +271,31 @@ fn team_frame(
     if kind == Kind::STEP {
         return refused(ticket, Refusal::NO_TICKET);
     }
-    open_view(ticket, part)
+    open_view(ticket, ranks, part)
 }
 
 // A team's frame.
-fn team_settled(book: &mut [u64], ticket: Ticket, part: &[u8], kind: u16, team: u16) -> Settled
-    requires { ⌜ TeamFrame (now book) (now part) kind team ⌝ }
-    ensures { λ r. ⌜ (r, now (book .exit)) ≡ teamSettled (now (book .entry)) ticket (now (part .entry)) kind team ⌝ }
+fn team_settled(
+    book: &mut [u64],
+    ticket: Ticket,
+    ranks: &[u16],
+    part: &[u8],
+    kind: u16,
+    team: u16,
+) -> Settled
+    requires { ⌜ TeamFrame (now book) (now part) kind team × Accepted (now ranks) ⌝ }
+    ensures { λ r. ⌜ (r, now (book .exit)) ≡ teamSettled (now (book .entry)) ticket (now (ranks .entry)) (now (part .entry)) kind team ⌝ }
 {
     if opens_edit(ticket, kind) {
-        return open_edit(ticket, part, kind);
+        return open_edit(ticket, ranks, part, kind);
     }
-    team_frame(book, ticket, false, part, kind, team)
+    team_frame(book, ticket, false, ranks, part, kind, team)
 }
 
 // What an aimed frame makes of the ticket in its slot and of the words, and its answer.
-fn settle(book: &mut [u64], ticket: Ticket, frame: &[u8], aim: Aim) -> Settled
-    requires { ⌜ (length (now book) ≡ wordsInBook) × AimKnown (now frame) aim ⌝ }
-    ensures { λ r. ⌜ (r, now (book .exit)) ≡ settledBy (now (book .entry)) ticket (now (frame .entry)) aim ⌝ }
+fn settle(book: &mut [u64], ticket: Ticket, ranks: &[u16], frame: &[u8], aim: Aim) -> Settled
+    requires { ⌜ (length (now book) ≡ wordsInBook) × AimKnown (now frame) aim × Accepted (now ranks) ⌝ }
+    ensures { λ r. ⌜ (r, now (book .exit)) ≡ settledBy (now (book .entry)) ticket (now (ranks .entry)) (now (frame .entry)) aim ⌝ }
 {
     match aim {
         Aim::Refused(number) => refused(ticket, number),
@@ -301,31 +310,44 @@ fn settle(book: &mut [u64], ticket: Ticket, frame: &[u8], aim: Aim) -> Settled
         }
         Aim::Team(kind, team) => {
             let part = frames::head::part_after_kind(frame);
-            team_settled(book, ticket, part, kind, team)
+            team_settled(book, ticket, ranks, part, kind, team)
         }
     }
 }
 
-// One call: a frame in, an answer out.
-pub fn call(book: &mut [u64], mut tickets: Tickets, frame: &[u8], out: &mut [u8]) -> Reply
-    ensures { λ r. ⌜ (r, now (book .exit), now (out .exit)) ≡ callOf (now (book .entry)) tickets (now (frame .entry)) (now (out .entry)) ⌝ }
+// What is returned where nothing is written.
+fn turned_away(tickets: Tickets, number: usize) -> Reply
+    ensures { λ r. ⌜ (r .written ≡ number) × (r .tickets ≡ tickets) ⌝ }
+{
+    Reply {
+        written: number,
+        tickets: tickets,
+    }
+}
+
+// One call: a frame in, an answer out. The ranks in force are lent as the caller has them, however many.
+pub fn call(
+    book: &mut [u64],
+    mut tickets: Tickets,
+    ranks: &[u16],
+    frame: &[u8],
+    out: &mut [u8],
+) -> Reply
+    ensures { λ r. ⌜ (r, now (book .exit), now (out .exit)) ≡ callOf (now (book .entry)) tickets (now (ranks .entry)) (now (frame .entry)) (now (out .entry)) ⌝ }
 {
     if book.len() != Limits::WORDS {
-        return Reply {
-            written: Refusal::BOOK,
-            tickets: tickets,
-        };
+        return turned_away(tickets, Refusal::BOOK);
+    }
+    if !ranks::is_permutation(ranks) {
+        return turned_away(tickets, Refusal::RANKS);
     }
     if out.len() < Answer::LONGEST {
-        return Reply {
-            written: Refusal::OUTPUT,
-            tickets: tickets,
-        };
+        return turned_away(tickets, Refusal::OUTPUT);
     }
     let aim = aim_of(frame);
     let slot = slot_of(aim);
     let ticket = tickets.slots[slot];
-    let done = settle(book, ticket, frame, aim);
+    let done = settle(book, ticket, ranks, frame, aim);
     let next = done.ticket;
     let answer = done.answer;
     tickets.slots[slot] = next;
@@ -471,9 +493,15 @@ fn steps_edit(ticket: Ticket, known: bool, kind: u16) -> bool
 // as most frames are, have ways of their own, which store the slot where they know how: a ticket that goes on keeps its
 // targets in place. The mirror shows the targets of every edit's ticket, so that a step copies none. Where all tickets
 // are well made at the start they stay so, and none is tested again.
-fn answer_frames(book: &mut [u64], mut tickets: Tickets, input: &[u8], out: &mut [u8]) -> Streamed
-    requires { ⌜ length (now book) ≡ wordsInBook ⌝ }
-    ensures { λ r. ⌜ ((r .consumed ≤ length (now (input .entry))) × (r .written ≤ length (now (out .entry)))) × ((r, now (book .exit), now (out .exit)) ≡ streamFrom (length (now (input .entry))) (now (book .entry)) tickets (now (input .entry)) (now (out .entry)) 0 0) ⌝ }
+fn answer_frames(
+    book: &mut [u64],
+    mut tickets: Tickets,
+    ranks: &[u16],
+    input: &[u8],
+    out: &mut [u8],
+) -> Streamed
+    requires { ⌜ (length (now book) ≡ wordsInBook) × Accepted (now ranks) ⌝ }
+    ensures { λ r. ⌜ ((r .consumed ≤ length (now (input .entry))) × (r .written ≤ length (now (out .entry)))) × ((r, now (book .exit), now (out .exit)) ≡ streamFrom (length (now (input .entry))) (now (book .entry)) tickets (now (ranks .entry)) (now (input .entry)) (now (out .entry)) 0 0) ⌝ }
 {
     let known = all_well_made(tickets);
     let gone = Ticket::none();
@@ -528,7 +556,7 @@ fn answer_frames(book: &mut [u64], mut tickets: Tickets, input: &[u8], out: &mut
                     let read = decoder::read_edit(kind, part);
                     match read {
                         EditRead::Is(edit) => {
-                            let opened = edits::opened(edit);
+                            let opened = edits::opened(edit, ranks);
                             tickets.slots[slot] = opened;
                             mirror::show(&mut shown, slot, opened);
                             filled = put_standing(out, filled, opened.n);
@@ -540,7 +568,7 @@ fn answer_frames(book: &mut [u64], mut tickets: Tickets, input: &[u8], out: &mut
                 } else {
                     let part = frames::head::part_after_kind(frame);
                     let whole = tickets.slots[slot];
-                    let done = team_frame(book, whole, known, part, kind, team);
+                    let done = team_frame(book, whole, known, ranks, part, kind, team);
                     let next = done.ticket;
                     let answer = done.answer;
                     tickets.slots[slot] = next;
@@ -553,12 +581,21 @@ fn answer_frames(book: &mut [u64], mut tickets: Tickets, input: &[u8], out: &mut
 }
 
 // All whole frames of the input, answered one after another.
-pub fn stream(book: &mut [u64], tickets: Tickets, input: &[u8], out: &mut [u8]) -> Streamed
+pub fn stream(
+    book: &mut [u64],
+    tickets: Tickets,
+    ranks: &[u16],
+    input: &[u8],
+    out: &mut [u8],
+) -> Streamed
     ensures bounds { λ r. ⌜ (r .consumed ≤ length (now (input .entry))) × (r .written ≤ length (now (out .entry))) ⌝ }
-    ensures all { λ r. ⌜ (r, now (book .exit), now (out .exit)) ≡ streamOf (now (book .entry)) tickets (now (input .entry)) (now (out .entry)) ⌝ }
+    ensures all { λ r. ⌜ (r, now (book .exit), now (out .exit)) ≡ streamOf (now (book .entry)) tickets (now (ranks .entry)) (now (input .entry)) (now (out .entry)) ⌝ }
 {
     if book.len() != Limits::WORDS {
         return stopped(tickets, 0, 0, Stop::NoBook);
     }
-    answer_frames(book, tickets, input, out)
+    if !ranks::is_permutation(ranks) {
+        return stopped(tickets, 0, 0, Stop::NoRanks);
+    }
+    answer_frames(book, tickets, ranks, input, out)
 }

@@ -10,6 +10,7 @@ use lib.ListN.{length, length-replicate}
 use borrow.Author.Tests.{eq-eqb}
 use Rattle.words.specs.Tests.{allHold, Every}
 use Rattle.words.specs.Words.{Words, wordsInBook, readOf, markOf}
+use Rattle.legs.proofs.Ranks.{fixed-ranks-are-permutation}
 use Rattle.tickets.specs.declared.Phase.{Phase}
 use Rattle.tickets.specs.declared.Phase.the-variants.{NoTicket, Claiming, Putting, GivingBack, Viewing, Viewed}
 use Rattle.tickets.specs.declared.Ticket.{Ticket}
@@ -25,7 +26,7 @@ use Rattle.plain.specs.Plain.{Plain, freshPlain, wordOf}
 use Rattle.plain.proofs.EditLaws.{fresh-is-sound}
 use Rattle.calls.specs.Call.{badlyMade, doneOf, callOf}
 use Rattle.calls.specs.Shelves.{shelfOf, noneFilled, isFilled}
-use Rattle.calls.specs.Run.{Call, framed, filling, comingBack, Admitted, Shared, fresh, heardOf, leftBy, answerHeard, runFrom, run}
+use Rattle.calls.specs.Run.{Call, framed, loading, filling, comingBack, Admitted, Shared, fresh, heardOf, leftBy, answerHeard, runFrom, run}
 use Rattle.calls.specs.Order.{stale, Event, decided, looked, seen, filled, cameBack, wasFilled, Asked, anEdit, aView, Noted, Notes, noNotes, hearAnswer, notesFrom, notesOn, holds, holdsWord}
 use Rattle.calls.specs.Linearizable.{freshState, keptOr, deedOf, feed, playFrom, play, grantedOf, sinceBack, untilBack, FoundFits, DecidedAtMostOnce, StandingRight, heardOn, Demand3}
 use Rattle.calls.specs.Demand1.{TableFits}
@@ -39,6 +40,7 @@ use Rattle.calls.proofs.Tied.{HeardIn, KnownAs, Tied, known-stands, hol
 use Rattle.calls.proofs.Turns.{ShelfTied, Good}
 use Rattle.calls.proofs.Kept.{call-kept}
 use Rattle.calls.proofs.Shelving.{filling-kept, coming-back-kept}
+use Rattle.calls.proofs.Loading.{loading-kept}
 
 -- At the start.
 fresh-ordered : Ordered []
@@ -58,6 +60,9 @@ fresh-good store = record {
   whole = length-replicate {A = ℕ} wordsInBook 0;
   agree = holds-at-start wordsInBook (ticketOf freshTickets) (wordOf freshPlain) fresh-slots (λ word below. fresh-words word);
   tied = fresh-slots;
+  ranked = fixed-ranks-are-permutation;
+  heard-ranks = refl;
+  under = λ team. tt;
   ordered = fresh-ordered;
   shelved = record { flags = refl; tied = fresh-flags; heard = fresh-flags };
   places = λ team. tt;
@@ -130,7 +135,7 @@ stands-as-noted ticket (some noted) known = known-stands known
 
 -- The book and tickets that a call leaves are those of what it does.
 left-kept : (shared : Shared) (n : Notes) → TableFits (shared .tickets) → Good shared n → (frame out : Bytes) → areBytes frame ≡ true
-    → Good (leftBy shared (framed frame out)) (hearAnswer n frame (some (doneOf (shared .book) (shared .tickets) frame out .answer)))
+    → Good (leftBy shared (framed frame out)) (hearAnswer n frame (some (doneOf (shared .book) (shared .tickets) (shared .ranks) frame out .answer)))
 unfolding callOf
 left-kept shared n table good frame out bytes = call-kept shared n table good frame out bytes
 
@@ -139,12 +144,14 @@ pub calls-keep : (calls : List Call) → Every Admitted calls → (shared : Shar
     → Good (runFrom shared calls .end) (notesFrom n (runFrom shared calls .heard))
 unfolding runFrom notesFrom
 calls-keep [] bytes shared n table good = good
+calls-keep (loading ranks ∷ calls) bytes shared n table good =
+    calls-keep calls (bytes .1) (leftBy shared (loading ranks)) _ table (loading-kept shared n table good ranks)
 calls-keep (filling shelf lent ∷ calls) bytes shared n table good =
     calls-keep calls (bytes .1) (leftBy shared (filling shelf lent)) _ table (filling-kept shared n table good shelf lent (bytes .0))
 calls-keep (comingBack shelf lent ∷ calls) bytes shared n table good =
     calls-keep calls (bytes .1) (leftBy shared (comingBack shelf lent)) _ table (coming-back-kept shared n table good shelf lent (bytes .0))
 calls-keep (framed frame out ∷ calls) bytes shared n table good =
-    calls-keep calls (bytes .1) (leftBy shared (framed frame out)) _ (tables-stay (shared .book) (shared .tickets) frame out table) one-kept
+    calls-keep calls (bytes .1) (leftBy shared (framed frame out)) _ (tables-stay (shared .book) (shared .tickets) (shared .ranks) frame out table) one-kept
   where
     one-kept : Good (leftBy shared (framed frame out)) (hearAnswer n frame (answerHeard (heardOf shared (framed frame out))))
     one-kept = subst (λ answer. Good (leftBy shared (framed frame out)) (hearAnswer n frame answer)) (sym (answers-heard shared frame out table))
@@ -154,9 +161,10 @@ calls-keep (framed frame out ∷ calls) bytes shared n table good =
 pub tables-run : (calls : List Call) (shared : Shared) → TableFits (shared .tickets) → TableFits (runFrom shared calls .end .tickets)
 unfolding runFrom
 tables-run [] shared table = table
+tables-run (loading ranks ∷ calls) shared table = tables-run calls (leftBy shared (loading ranks)) table
 tables-run (filling shelf lent ∷ calls) shared table = tables-run calls (leftBy shared (filling shelf lent)) table
 tables-run (comingBack shelf lent ∷ calls) shared table = tables-run calls (leftBy shared (comingBack shelf lent)) table
-tables-run (framed frame out ∷ calls) shared table = tables-run calls (leftBy shared (framed frame out)) (tables-stay (shared .book) (shared .tickets) frame out table)
+tables-run (framed frame out ∷ calls) shared table = tables-run calls (leftBy shared (framed frame out)) (tables-stay (shared .book) (shared .tickets) (shared .ranks) frame out table)
 
 pub run-table : (store : Words) (calls : List Call) → TableFits (run store calls .end .tickets)
 run-table store calls = tables-run calls (fresh store) fresh-table
@@ -221,6 +229,8 @@ demand3 store calls bytes =
       plain-sound = ordered .sound;
       stays-whole = ap not (eq-eqb _ _ (good .whole));
       stays-well-made = λ team. well-made (ticketOf (shared .tickets) team) (subst (λ size. FitSlot size (ticketOf (shared .tickets) team)) (good .whole) (good .agree .fit team));
+      ranks-heard = good .heard-ranks;
+      stays-ranked = ap not (good .ranked);
       tries-add-up = good .tries;
       in-turn = good .in-turn;
       noted-stand = λ team. stands-as-noted (ticketOf (shared .tickets) team) (n .tickets team) (good .tied team);

@@ -25,7 +25,7 @@ use Rattle.calls.proofs.Tied.{UpTo, up-to-more, HeardClaiming, HeardPut
 use Rattle.calls.proofs.Turns.{Good, asking, Turn, Leaving, Kept, still, left-as, fit, spent, none-released, my-place, grown, stays-as, ends-as, advances, heard-claim, heard-last}
 
 -- A step of a ticket of which this was heard.
-module _ (edit : Edit) (heard : Noted) (turn : Turn (asking (anEdit edit) heard)) where
+module _ (edit : Edit) (heard : Noted) (turn : Turn (asking (anEdit edit) (heard .ranks) heard)) where
   abbrev n : Notes
   n = turn .n
 
@@ -41,16 +41,16 @@ module _ (edit : Edit) (heard : Noted) (turn : Turn (asking (anEdit edit) heard)
   abbrev plain : ℕ → ℕ
   plain = wordOf (play (n .order))
 
-  abbrev known : Known ticket (asking (anEdit edit) heard)
+  abbrev known : Known ticket (asking (anEdit edit) (heard .ranks) heard)
   known = turn .known
 
   abbrev edited : Noted
-  edited = withStep (asking (anEdit edit) heard)
+  edited = withStep (asking (anEdit edit) (heard .ranks) heard)
 
   -- It goes on with the same targets.
   edit-goes : {phase : Phase} {claimed done : ℕ} (after : Noted) → after .steps ≡ edited .steps
-      → UpTo claimed (after .claimed) → UpTo done (after .released) → HeardIn edit phase (advanced ticket phase claimed done) (asking (anEdit edit) after)
-      → Known (advanced ticket phase claimed done) (asking (anEdit edit) after)
+      → UpTo claimed (after .claimed) → UpTo done (after .released) → HeardIn edit phase (advanced ticket phase claimed done) (asking (anEdit edit) (heard .ranks) after)
+      → Known (advanced ticket phase claimed done) (asking (anEdit edit) (heard .ranks) after)
   edit-goes {phase} {claimed} {done} after one-more taken let-go phase-heard = advances turn ticket refl refl after one-more taken let-go record {
     fine = known .rest .fine;
     targets = targets-advanced ticket phase claimed done ∙ known .rest .targets;
@@ -58,11 +58,11 @@ module _ (edit : Edit) (heard : Noted) (turn : Turn (asking (anEdit edit) heard)
   }
 
   -- What was heard in this phase.
-  heard-in : (phase : Phase) → ticket .phase ≡ phase → HeardIn edit phase ticket (asking (anEdit edit) heard)
-  heard-in phase e = subst (λ phase. HeardIn edit phase ticket (asking (anEdit edit) heard)) e (known .rest .phase)
+  heard-in : (phase : Phase) → ticket .phase ≡ phase → HeardIn edit phase ticket (asking (anEdit edit) (heard .ranks) heard)
+  heard-in phase e = subst (λ phase. HeardIn edit phase ticket (asking (anEdit edit) (heard .ranks) heard)) e (known .rest .phase)
 
   module _ (claiming : ticket .phase ≡ Claiming) where
-    heard-claiming : HeardClaiming ticket (asking (anEdit edit) heard)
+    heard-claiming : HeardClaiming ticket (asking (anEdit edit) (heard .ranks) heard)
     heard-claiming = heard-in Claiming claiming
 
     -- Where the next word differs, the edit does not succeed.
@@ -70,7 +70,7 @@ module _ (edit : Edit) (heard : Noted) (turn : Turn (asking (anEdit edit) heard)
       pub fails : succeeds (play (n .order)) edit ≡ true → ⊥
       fails succeeded =
           differs (match-at ticket plain
-          (subst (λ targets. AllMatch targets plain) (sym (known .rest .targets)) (stored-law (n .order) (good .ordered) edit (known .rest .fine) .quoted succeeded))
+          (subst (λ targets. AllMatch targets plain) (sym (known .rest .targets)) (stored-law (n .order) (good .ordered) edit (known .rest .fine) (heard .ranks) .quoted succeeded))
           (ticket .claimed) (claiming-counts ticket (fit turn) claiming))
 
       pub differed : Differed edit edited record { verdict = stale; before = n .order } (targetAt ticket (ticket .claimed) .word)
@@ -88,6 +88,7 @@ module _ (edit : Edit) (heard : Noted) (turn : Turn (asking (anEdit edit) heard)
         (edit-goes (withClaimed (ticket .claimed + 1) edited) refl
         (up-to-more (ticket .claimed) (heard .claimed) (known .claimed)) (known .released)
         record { undecided = heard-claiming .undecided; swapped = omega (arith, heard-claiming .swapped) })
+        refl
 
     step-waits : (holder : ℕ) → Leaving turn plain (advanced ticket Claiming (ticket .claimed) (ticket .done)) (Waiting (targetAt ticket (ticket .claimed) .word) holder)
         → Kept turn
@@ -95,6 +96,7 @@ module _ (edit : Edit) (heard : Noted) (turn : Turn (asking (anEdit edit) heard)
         stays-as turn (withWait edited) left refl (my-place turn)
         (edit-goes (withWait edited) refl (known .claimed) (known .released)
         record { undecided = heard-claiming .undecided; swapped = omega (arith, heard-claiming .swapped) })
+        refl
 
     -- The last claim: the ticket is decided as granted.
     step-claims-last : ticket .claimed + 1 ≡ ticket .n
@@ -102,7 +104,7 @@ module _ (edit : Edit) (heard : Noted) (turn : Turn (asking (anEdit edit) heard)
         → ((after : ℕ → ℕ) → PutInto (targetsIn ticket) plain after → Leaving turn after (advanced ticket Putting (ticket .claimed + 1) 0) (Claimed (ticket .claimed + 1)))
         → Kept turn
     step-claims-last last matches left =
-        let law = stored-law (n .order) (good .ordered) edit (known .rest .fine) in
+        let law = stored-law (n .order) (good .ordered) edit (known .rest .fine) (heard .ranks) in
         let succeeded = law .success (subst (λ targets. AllMatch targets plain) (known .rest .targets) matches) in
         let after = wordOf (perform (play (n .order)) edit) in
         let decided-now : Noted = withDecision granted (n .order) (withClaimed (ticket .claimed + 1) edited) in
@@ -123,6 +125,7 @@ module _ (edit : Edit) (heard : Noted) (turn : Turn (asking (anEdit edit) heard)
           not-found = heard-claiming .undecided .1;
           swapped = omega (arith, heard-claiming .swapped);
         })
+        refl
         (grown turn (decided granted edit) refl (granted-ordered (n .order) (good .ordered) edit (known .rest .fine) succeeded)) (good .ends) (good .tries)
 
     -- Found: it is decided as stale.
@@ -148,6 +151,7 @@ module _ (edit : Edit) (heard : Noted) (turn : Turn (asking (anEdit edit) heard)
           found = refl;
           differed = record { named = names .named; differs = names .differs };
         })
+        refl
         (grown turn (decided stale edit) refl (stale-ordered (n .order) (good .ordered) edit (known .rest .fine) failed)) (good .ends) (good .tries)
 
     -- Stale with no Found: it is decided as stale, and gone.
@@ -181,7 +185,7 @@ module _ (edit : Edit) (heard : Noted) (turn : Turn (asking (anEdit edit) heard)
         (spent turn, tt)
 
   module _ (putting : ticket .phase ≡ Putting) where
-    heard-putting : HeardPutting edit ticket (asking (anEdit edit) heard)
+    heard-putting : HeardPutting edit ticket (asking (anEdit edit) (heard .ranks) heard)
     heard-putting = heard-in Putting putting
 
     step-puts : Leaving turn plain (advanced ticket Putting (ticket .claimed) (ticket .done + 1)) (Put (ticket .done + 1))
@@ -196,6 +200,7 @@ module _ (edit : Edit) (heard : Noted) (turn : Turn (asking (anEdit edit) heard)
           not-found = heard-putting .not-found;
           swapped = omega (arith, heard-putting .swapped);
         })
+        refl
 
     -- Granted.
     step-puts-last : ticket .done + 1 ≡ ticket .n
@@ -211,7 +216,7 @@ module _ (edit : Edit) (heard : Noted) (turn : Turn (asking (anEdit edit) heard)
         (spent turn, omega (arith, heard-putting .swapped))
 
   module _ (giving : ticket .phase ≡ GivingBack) where
-    heard-giving : HeardGivingBack edit ticket (asking (anEdit edit) heard)
+    heard-giving : HeardGivingBack edit ticket (asking (anEdit edit) (heard .ranks) heard)
     heard-giving = heard-in GivingBack giving
 
     step-returns : Leaving turn plain (advanced ticket GivingBack (ticket .claimed) (ticket .done + 1)) (Returned (ticket .done + 1))
@@ -227,6 +232,7 @@ module _ (edit : Edit) (heard : Noted) (turn : Turn (asking (anEdit edit) heard)
           found = heard-giving .found;
           differed = record { named = names .named; differs = names .differs };
         })
+        refl
 
     -- Stale after Found.
     step-returns-last : Leaving turn plain noTicket (Stale (targetAt ticket (ticket .claimed) .word) (oneMoreTry (ticket .tries)))

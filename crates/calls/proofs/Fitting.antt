@@ -3,6 +3,7 @@ use Prim.Native.Nat.{ℕ, zero, suc, _+_, _-_, _^_, _≤_, _<_}
 use mathlib.Core.Path.{_≡_, refl, sym, ap, subst, _∙_}
 use mathlib.Core.Bool.{Bool, true, false, cond, false≢true}
 use mathlib.Core.List.{List, [], _∷_, _++_, map}
+use mathlib.Core.Logic.{inl, inr}
 use mathlib.Core.Option.{Option, none, some}
 use native.Mathlib.Omega.{arith}
 use lib.Dec.{eqb, ltb, lit<}
@@ -15,6 +16,7 @@ use Rattle.words.proofs.Tests.{AllTrue, join}
 use Rattle.tickets.specs.declared.Target.{Target}
 use Rattle.tickets.specs.declared.Phase.the-variants.{Claiming, Putting, GivingBack, Viewing, Viewed}
 use Rattle.tickets.specs.declared.Ticket.{Ticket}
+use Rattle.legs.specs.Positions.{Ranks}
 use Rattle.tickets.specs.declared.Tickets.{Tickets}
 use Rattle.tickets.specs.declared.Stepped.{Stepped}
 use Rattle.tickets.specs.declared.StepAnswer.the-variants.{Waiting, Stale, Seen}
@@ -33,7 +35,7 @@ use Rattle.frames.specs.Requests.{requestIn}
 use Rattle.frames.specs.Reading.{allZero, stepAnswerFits, answerFits}
 use Rattle.calls.specs.Call.{teamUnknown, ownTicketBadlyMade, stepWithoutTicket, refusalOf, requestDone, refusedOr, doneOf}
 use Rattle.calls.specs.Demand1.{TableFits, AnswersFit}
-use Rattle.calls.proofs.Refusing.{Among, refusal-among, passed, Sized, request-sized, standing-made}
+use Rattle.calls.proofs.Refusing.{AllSorted, returned-small, refusal-sorted, passed, Sized, request-sized, standing-made}
 use Rattle.calls.proofs.Tables.{one-more-fits, count-most}
 
 -- At most six values in their room are those values, and zeros behind them.
@@ -152,9 +154,9 @@ look-fits : (words : Words) (word : ℕ) (held : Bool) → isHeld (readOf words 
 look-fits words word true e = refl
 look-fits words word false e = lt-ltb (readOf words word) (2 ^ 64) (omega (arith, leb-false (2 ^ 63) (readOf words word) e))
 
-module _ (words : Words) (tickets : Tickets) (fits : TableFits tickets) where
+module _ (words : Words) (tickets : Tickets) (ranks : Ranks) (fits : TableFits tickets) where
   request-fits : (request : Request) → teamUnknown request ≡ false → ownTicketBadlyMade tickets request ≡ false → stepWithoutTicket tickets request ≡ false → Sized request
-      → answerFits (requestDone words tickets request .answer) ≡ true
+      → answerFits (requestDone words tickets ranks request .answer) ≡ true
   unfolding requestDone
   request-fits (Open team edit) known good stands sized = lt-ltb (targetCount edit) 65536 (omega (arith, count-most edit))
   request-fits (Step team) known good stands sized =
@@ -164,17 +166,17 @@ module _ (words : Words) (tickets : Tickets) (fits : TableFits tickets) where
   request-fits (Look word) known good stands sized = look-fits words word (isHeld (readOf words word)) refl
   request-fits (View team n named) known good stands sized = lt-ltb (length named) 65536 (omega (arith, sized .1))
 
-  done-fits : (request : Request) (refusal : Option ℕ) → Among 1 11 refusal
-      → (refusal ≡ none → answerFits (requestDone words tickets request .answer) ≡ true)
-      → answerFits (refusedOr refusal words tickets request .answer) ≡ true
-  done-fits request none among passes = passes refl
-  done-fits request (some number) among passes = lt-ltb number 65536 (omega arith)
+  done-fits : (request : Request) (refusal : Option ℕ) → AllSorted refusal
+      → (refusal ≡ none → answerFits (requestDone words tickets ranks request .answer) ≡ true)
+      → answerFits (refusedOr refusal words tickets ranks request .answer) ≡ true
+  done-fits request none sorted passes = passes refl
+  done-fits request (some number) sorted passes = lt-ltb number 65536 (elim sorted [ inl alone ↦ returned-small number alone | inr (least, most) ↦ omega arith ])
 
-  pub answer-fits : (frame out : Bytes) → answerFits (doneOf words tickets frame out .answer) ≡ true
+  pub answer-fits : (frame out : Bytes) → answerFits (doneOf words tickets ranks frame out .answer) ≡ true
   unfolding doneOf
-  answer-fits frame out = done-fits (requestIn frame) (refusalOf words tickets frame out) (refusal-among words tickets frame out) (λ none-given.
-      let pass = passed words tickets frame out none-given in
+  answer-fits frame out = done-fits (requestIn frame) (refusalOf words tickets ranks frame out) (refusal-sorted words tickets ranks frame out) (λ none-given.
+      let pass = passed words tickets ranks frame out none-given in
       request-fits (requestIn frame) (pass .known-team) (pass .well-made) (pass .step-allowed) (request-sized pass))
 
 pub answers-fit : AnswersFit
-answers-fit words tickets frame out fits = answer-fits words tickets fits frame out
+answers-fit words tickets ranks frame out fits = answer-fits words tickets ranks fits frame out

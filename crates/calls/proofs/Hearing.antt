@@ -3,11 +3,12 @@ use Prim.Native.Nat.{ℕ, _≤_, _<_}
 use mathlib.Core.Path.{_≡_, refl, ap, subst, _∙_}
 use mathlib.Core.Bool.{true}
 use mathlib.Core.Option.{Option, none, some}
-use native.Mathlib.Decide.{decLt}
+use mathlib.Core.Logic.{_≢_, inl, inr}
 use native.Mathlib.Omega.{arith}
 use lib.ListN.{length, take, drop}
 use lib.Seq.{take-append-seam, drop-append-seam}
 use Rattle.words.specs.Words.{Words}
+use Rattle.legs.specs.Positions.{Ranks}
 use Rattle.tickets.specs.declared.Tickets.{Tickets}
 use Rattle.frames.specs.Request.{Request, Open, Step, Look, View}
 use Rattle.frames.specs.Requests.{requestIn}
@@ -16,12 +17,12 @@ use Rattle.frames.specs.declared.Answer.the-variants as Answer
 use Rattle.frames.specs.Numbers.{Bytes}
 use Rattle.frames.specs.Answers.{answerFrame, longestAnswer, written}
 use Rattle.frames.specs.Reading.{answerIn, answerFits}
-use Rattle.frames.proofs.Framed.{answer-frames-sound}
+use Rattle.frames.proofs.Framed.{answer-frames-sound, answer-frames-even}
 use Rattle.frames.proofs.ReadsBack.{answers-read-back}
-use Rattle.calls.specs.Call.{refusalOf, requestDone, refusedOr, Sent, number, bytes, sentOf, writtenBy, doneOf, callOf}
+use Rattle.calls.specs.Call.{refusalOf, isReturned, requestDone, refusedOr, Sent, number, bytes, sentOf, writtenBy, doneOf, callOf}
 use Rattle.calls.specs.Run.{Call, framed, Heard, answerHeard}
 use Rattle.calls.specs.Demand1.{AnswersHeard}
-use Rattle.calls.proofs.Refusing.{not-returned, returned-alone, Among, refusal-among}
+use Rattle.calls.proofs.Refusing.{not-returned, Sorted, AllSorted, refusal-sorted}
 use Rattle.calls.proofs.Fitting.{answer-fits}
 
 -- An answer's frame, written to an output: it is read back, and later bytes stay.
@@ -41,6 +42,10 @@ in-frame out answer fits =
       later-bytes = drop-append-seam frame (drop (length frame) out);
     }
 
+-- No answer has 13 bytes: a frame has an even number of them.
+not-thirteen : (answer : Answer) → length (answerFrame answer) ≢ 13
+not-thirteen answer odd = omega (arith, answer-frames-even answer)
+
 -- What a bystander hears where so much went out.
 abbrev heardBy : Call → ℕ × Bytes → Heard
 heardBy call result = record { call = call; returned = result .0; output = result .1 }
@@ -49,56 +54,57 @@ frame-heard : (call : Call) (out : Bytes) (answer : Answer) → answerFits answe
 unfolding answerHeard
 frame-heard call out answer fits =
     let sound = in-frame out answer fits in
-    rw (not-returned (length (answerFrame answer)) (omega (arith, sound .at-least))) (sound .bytes-read)
+    rw (not-returned (length (answerFrame answer)) (omega (arith, sound .at-least)) (not-thirteen answer)) (sound .bytes-read)
 
-number-heard : (call : Call) (out : Bytes) (refusal : ℕ) → 1 ≤ refusal → refusal < 3 → answerHeard (heardBy call (refusal, out)) ≡ some (Answer.Refused refusal)
+number-heard : (call : Call) (out : Bytes) (refusal : ℕ) → isReturned refusal ≡ true → answerHeard (heardBy call (refusal, out)) ≡ some (Answer.Refused refusal)
 unfolding answerHeard
-number-heard call out refusal least small = rw (returned-alone refusal least small) refl
+number-heard call out refusal alone = rw alone refl
 
--- 1 and 2 go out as a number alone, 3 to 11 in a frame.
-pub sent-alone : (refusal : ℕ) → 1 ≤ refusal → refusal < 3 → sentOf (Answer.Refused refusal) ≡ number refusal
+-- 1, 13 and 2 go out as a number alone, 3 to 11 in a frame.
+pub sent-alone : (refusal : ℕ) → isReturned refusal ≡ true → sentOf (Answer.Refused refusal) ≡ number refusal
 unfolding sentOf
-sent-alone refusal least small = rw (returned-alone refusal least small)
+sent-alone refusal alone = rw alone
 
-pub sent-refused : (refusal : ℕ) → 3 ≤ refusal → sentOf (Answer.Refused refusal) ≡ bytes (answerFrame (Answer.Refused refusal))
+pub sent-refused : (refusal : ℕ) → 3 ≤ refusal → refusal ≤ 11 → sentOf (Answer.Refused refusal) ≡ bytes (answerFrame (Answer.Refused refusal))
 unfolding sentOf
-sent-refused refusal large = rw (not-returned refusal large)
+sent-refused refusal least most = rw (not-returned refusal least (λ e. omega arith))
 
--- A refusal has a number from 1 on.
+-- A refusal's number is one of these.
 abbrev Numbered : Answer → Type 0
 Numbered (Answer.Standing n) = Unit {0}
 Numbered (Answer.Step answer) = Unit {0}
 Numbered (Answer.Look answer) = Unit {0}
-Numbered (Answer.Refused refusal) = 1 ≤ refusal
+Numbered (Answer.Refused refusal) = Sorted refusal
 
-request-numbered : (words : Words) (tickets : Tickets) (request : Request) → Numbered (requestDone words tickets request .answer)
+request-numbered : (words : Words) (tickets : Tickets) (ranks : Ranks) (request : Request) → Numbered (requestDone words tickets ranks request .answer)
 unfolding requestDone
-request-numbered words tickets (Open team edit) = tt
-request-numbered words tickets (Step team) = tt
-request-numbered words tickets (Look word) = tt
-request-numbered words tickets (View team n named) = tt
+request-numbered words tickets ranks (Open team edit) = tt
+request-numbered words tickets ranks (Step team) = tt
+request-numbered words tickets ranks (Look word) = tt
+request-numbered words tickets ranks (View team n named) = tt
 
-numbered : (words : Words) (tickets : Tickets) (frame out : Bytes) → Numbered (doneOf words tickets frame out .answer)
+numbered : (words : Words) (tickets : Tickets) (ranks : Ranks) (frame out : Bytes) → Numbered (doneOf words tickets ranks frame out .answer)
 unfolding doneOf
-numbered words tickets frame out = by (refusalOf words tickets frame out) refl
+numbered words tickets ranks frame out = by (refusalOf words tickets ranks frame out) (refusal-sorted words tickets ranks frame out)
   where
-    by : (refusal : Option ℕ) → refusalOf words tickets frame out ≡ refusal → Numbered (refusedOr refusal words tickets (requestIn frame) .answer)
-    by none is = request-numbered words tickets (requestIn frame)
-    by (some refusal) is = subst (Among 1 11) is (refusal-among words tickets frame out) .0
+    by : (refusal : Option ℕ) → AllSorted refusal → Numbered (refusedOr refusal words tickets ranks (requestIn frame) .answer)
+    by none is = request-numbered words tickets ranks (requestIn frame)
+    by (some refusal) is = is
 
 sent-heard : (call : Call) (out : Bytes) (answer : Answer) → Numbered answer → answerFits answer ≡ true → answerHeard (heardBy call (writtenBy out (sentOf answer))) ≡ some answer
 unfolding sentOf
-sent-heard call out (Answer.Standing n) least fits = frame-heard call out (Answer.Standing n) fits
-sent-heard call out (Answer.Step answer) least fits = frame-heard call out (Answer.Step answer) fits
-sent-heard call out (Answer.Look answer) least fits = frame-heard call out (Answer.Look answer) fits
-sent-heard call out (Answer.Refused refusal) least fits =
+sent-heard call out (Answer.Standing n) sorted fits = frame-heard call out (Answer.Standing n) fits
+sent-heard call out (Answer.Step answer) sorted fits = frame-heard call out (Answer.Step answer) fits
+sent-heard call out (Answer.Look answer) sorted fits = frame-heard call out (Answer.Look answer) fits
+sent-heard call out (Answer.Refused refusal) sorted fits =
     let hear : Sent → Option Answer = λ (sent : Sent). answerHeard (heardBy call (writtenBy out sent)) in
-    elim (decLt refusal 3) [
-      | yes small ↦ ap hear (sent-alone refusal least small) ∙ number-heard call out refusal least small
-      | no large ↦ ap hear (sent-refused refusal (omega arith)) ∙ frame-heard call out (Answer.Refused refusal) fits
+    elim sorted [
+      | inl alone ↦ ap hear (sent-alone refusal alone) ∙ number-heard call out refusal alone
+      | inr (least, most) ↦ ap hear (sent-refused refusal least most) ∙ frame-heard call out (Answer.Refused refusal) fits
     ]
 
 pub answers-heard : AnswersHeard
 unfolding callOf
 answers-heard shared frame out table =
-    sent-heard (framed frame out) out (doneOf (shared .book) (shared .tickets) frame out .answer) (numbered (shared .book) (shared .tickets) frame out) (answer-fits (shared .book) (shared .tickets) table frame out)
+    sent-heard (framed frame out) out (doneOf (shared .book) (shared .tickets) (shared .ranks) frame out .answer) (numbered (shared .book) (shared .tickets) (shared .ranks) frame out)
+    (answer-fits (shared .book) (shared .tickets) (shared .ranks) table frame out)

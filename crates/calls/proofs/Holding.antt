@@ -113,17 +113,17 @@ module _ (shared : Shared) (n : Notes) (table : TableFits (shared .tickets)) (go
 
   -- The call, by its request.
   pub call-names : (frame out : Bytes) → areBytes frame ≡ true → requestIn frame ≡ Step waiter
-      → doneOf (shared .book) (shared .tickets) frame out .answer ≡ Answer.Step (Waiting word team) → Names
+      → doneOf (shared .book) (shared .tickets) (shared .ranks) frame out .answer ≡ Answer.Step (Waiting word team) → Names
   unfolding doneOf requestDone
-  call-names frame out bytes asks answered = by (refusalOf (shared .book) (shared .tickets) frame out) refl answered
+  call-names frame out bytes asks answered = by (refusalOf (shared .book) (shared .tickets) (shared .ranks) frame out) refl answered
     where
-      by : (refusal : Option ℕ) → refusalOf (shared .book) (shared .tickets) frame out ≡ refusal
-          → refusedOr refusal (shared .book) (shared .tickets) (requestIn frame) .answer ≡ Answer.Step (Waiting word team) → Names
+      by : (refusal : Option ℕ) → refusalOf (shared .book) (shared .tickets) (shared .ranks) frame out ≡ refusal
+          → refusedOr refusal (shared .book) (shared .tickets) (shared .ranks) (requestIn frame) .answer ≡ Answer.Step (Waiting word team) → Names
       by (some number) is e = never cc
       by none is e =
-          let passed = subst (Passes (shared .tickets)) asks (passes (shared .book) (shared .tickets) frame out bytes is) in
+          let passed = subst (Passes (shared .tickets)) asks (passes (shared .book) (shared .tickets) (shared .ranks) frame out bytes is) in
           let step : Answer.Step (stepOf (shared .book) ticket waiter .0 .answer) ≡ Answer.Step (Waiting word team) =
-          ap (λ request. requestDone (shared .book) (shared .tickets) request .answer) (sym asks) ∙ e in
+          ap (λ request. requestDone (shared .book) (shared .tickets) (shared .ranks) request .answer) (sym asks) ∙ e in
           step-names (passed .1) cc
 
 pub waiting-names-the-holder : WaitingNamesTheHolder

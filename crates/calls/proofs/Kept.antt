@@ -8,6 +8,7 @@ use native.Mathlib.Omega.{arith}
 use lib.ListN.{length, replicate, length-append, length-map}
 use borrow.Author.Tests.{eq-eqb}
 use Rattle.words.specs.Words.{wordsInBook, teamCount, mostTargets}
+use Rattle.legs.specs.Positions.{Ranks}
 use Rattle.tickets.specs.declared.Ticket.{Ticket}
 use Rattle.tickets.specs.declared.LookAnswer.{LookAnswer}
 use Rattle.tickets.specs.declared.LookAnswer.the-variants.{Value, Held}
@@ -43,47 +44,47 @@ use Rattle.calls.proofs.EditSteps.{edit-kept}
 use Rattle.calls.proofs.ViewSteps.{view-kept}
 
 -- The ticket that an edit opens, and what is heard of it at Standing.
-module _ (edit : Edit) (fine : Fine edit) where
-  opened-fit : (size : ℕ) → size ≡ wordsInBook → OpenedTicket size (openedTicket edit)
+module _ (ranks : Ranks) (edit : Edit) (fine : Fine edit) where
+  opened-fit : (size : ℕ) → size ≡ wordsInBook → OpenedTicket size (openedTicket ranks edit)
   unfolding openedTicket
   opened-fit size whole = record {
     opens = refl;
     none-claimed = refl;
     none-done = refl;
     claimable =
-        subst (Claimable size) (sym (opened-tickets-hold-targets edit))
-        (subst (λ size. Claimable size (storedTargets edit)) (sym whole) (stored-targets-claimable edit (fine .allowed) (fine .stations)));
+        subst (Claimable size) (sym (opened-tickets-hold-targets ranks edit))
+        (subst (λ size. Claimable size (storedTargets ranks edit)) (sym whole) (stored-targets-claimable ranks edit (fine .allowed) (fine .stations)));
     names = λ view. absurd (false≢true view);
     room = λ view. absurd (false≢true view);
   }
 
-  opened-known : Known (openedTicket edit) (atStanding (anEdit edit))
+  opened-known : Known (openedTicket ranks edit) (atStanding ranks (anEdit edit))
   unfolding openedTicket
   opened-known = record {
-    words = ap (map (λ one. one .word)) (opened-tickets-hold-targets edit);
+    words = ap (map (λ one. one .word)) (opened-tickets-hold-targets ranks edit);
     spent = refl;
     claimed = up-to-none;
     released = up-to-none;
-    rest = record { fine = fine; targets = opened-tickets-hold-targets edit; phase = record { undecided = (refl, refl); swapped = refl } };
+    rest = record { fine = fine; targets = opened-tickets-hold-targets ranks edit; phase = record { undecided = (refl, refl); swapped = refl } };
   }
 
 -- The ticket that a view opens, likewise.
-module _ (words : List ℕ) (fine : FineView words) where
-  view-fit : (size : ℕ) → size ≡ wordsInBook → OpenedTicket size (openedView words)
+module _ (ranks : Ranks) (words : List ℕ) (fine : FineView words) where
+  view-fit : (size : ℕ) → size ≡ wordsInBook → OpenedTicket size (openedView ranks words)
   unfolding openedView
-  view-fit size whole = let opened = opened-views-hold-words words fine in record {
+  view-fit size whole = let opened = opened-views-hold-words ranks words fine in record {
     opens = refl;
     none-claimed = refl;
     none-done = refl;
-    claimable = subst (λ size. Claimable size (targetsIn (openedView words))) (sym whole) (view-targets-claimable words fine);
-    names = λ view. ap (λ names. namesWellMade names (wordsIn (openedView words))) (opened .names) ∙ ap (namesWellMade words) (opened .targets) ∙ opened .in-some-order;
-    room = λ view. let quoted : List ℕ = map (λ one. one .quoted) (viewTargets words) in
-        omega (arith, length-append quoted (replicate (mostTargets - length quoted) 0), length-map (viewTargets words) (λ one. one .quoted));
+    claimable = subst (λ size. Claimable size (targetsIn (openedView ranks words))) (sym whole) (view-targets-claimable ranks words fine);
+    names = λ view. ap (λ names. namesWellMade names (wordsIn (openedView ranks words))) (opened .names) ∙ ap (namesWellMade words) (opened .targets) ∙ opened .in-some-order;
+    room = λ view. let quoted : List ℕ = map (λ one. one .quoted) (viewTargets ranks words) in
+        omega (arith, length-append quoted (replicate (mostTargets - length quoted) 0), length-map (viewTargets ranks words) (λ one. one .quoted));
   }
 
-  view-known : Known (openedView words) (atStanding (aView words))
+  view-known : Known (openedView ranks words) (atStanding ranks (aView words))
   unfolding openedView
-  view-known = let opened = opened-views-hold-words words fine in record {
+  view-known = let opened = opened-views-hold-words ranks words fine in record {
     words = opened .targets;
     spent = refl;
     claimed = up-to-none;
@@ -92,14 +93,14 @@ module _ (words : List ℕ) (fine : FineView words) where
   }
 
 -- A step, of an edit's ticket or of a view.
-kept-by : (asked : Asked) (heard : Noted) (turn : Turn (asking asked heard))
+kept-by : (asked : Asked) (heard : Noted) (turn : Turn (asking asked (heard .ranks) heard))
     → StepKept (turn .shared .book) (ticketOf (turn .shared .tickets)) (wordOf (play (turn .n .order))) (turn .team) (ticketOf (turn .shared .tickets) (turn .team)) → Kept turn
 kept-by (anEdit edit) heard turn = edit-kept edit heard turn
 kept-by (aView words) heard turn = view-kept words heard turn
 
 module _ (shared : Shared) (n : Notes) (table : TableFits (shared .tickets)) (good : Good shared n) where
   -- A ticket is opened for an edit or a view.
-  opens : (team : ℕ) → team < teamCount → (asked : Asked) (opened : Ticket) → OpenedTicket (length (shared .book)) opened → Known opened (atStanding asked) → hasTicket (ticketOf (shared .tickets) team .phase) ≡ false
+  opens : (team : ℕ) → team < teamCount → (asked : Asked) (opened : Ticket) → OpenedTicket (length (shared .book)) opened → Known opened (atStanding (shared .ranks) asked) → hasTicket (ticketOf (shared .tickets) team .phase) ≡ false
       → Good (onward shared (shared .book) (withTicket (shared .tickets) team opened)) (hearOpened n team asked (countAsked asked))
   opens team inside asked opened apt known empty = by-note (n .tickets team) refl (good .tied team)
     where
@@ -108,26 +109,26 @@ module _ (shared : Shared) (n : Notes) (table : TableFits (shared .tickets)) (go
       by-note none is absent =
           subst (Good (onward shared (shared .book) (withTicket (shared .tickets) team opened)))
           (sym (ap (λ b. cond b (hearStanding n team (n .tickets team) asked) (noteOutOfTurn n)) (eq-eqb (countAsked asked) (countAsked asked) refl) ∙ ap (λ note. hearStanding n team note asked) is))
-          (goes-on shared n table good team inside (shared .book) opened (n .order) (some (atStanding asked)) (n .ended) (good .whole)
+          (goes-on shared n table good team inside (shared .book) opened (n .order) (some (atStanding (n .ranks) asked)) (n .ended) (good .whole)
           (opening-keeps (shared .book) (ticketOf (shared .tickets)) (wordOf (play (n .order))) team opened (good .agree) empty apt)
-          known (order-stays (good .ordered) tt) (good .ends) (good .tries))
+          (subst (λ ranks. Known opened (atStanding ranks asked)) (good .heard-ranks) known) refl (order-stays (good .ordered) tt) (good .ends) (good .tries))
       by-note (some noted) is standing = absurd (true≢false (sym (known-stands standing) ∙ empty))
 
   -- What a request does, and what is heard of it.
   abbrev pub After : Request → Done → Type 0
   After request done = Good (onward shared (done .words) (done .tickets)) (hearRequest n request (done .answer))
 
-  step-kept : (team : ℕ) → team < teamCount → hasTicket (ticketOf (shared .tickets) team .phase) ≡ true → After (Step team) (requestDone (shared .book) (shared .tickets) (Step team))
+  step-kept : (team : ℕ) → team < teamCount → hasTicket (ticketOf (shared .tickets) team .phase) ≡ true → After (Step team) (requestDone (shared .book) (shared .tickets) (shared .ranks) (Step team))
   unfolding requestDone
   step-kept team inside stands = by-note (n .tickets team) refl (good .tied team)
     where
-      by-note : (note : Option Noted) → n .tickets team ≡ note → Tied (ticketOf (shared .tickets) team) note → After (Step team) (requestDone (shared .book) (shared .tickets) (Step team))
+      by-note : (note : Option Noted) → n .tickets team ≡ note → Tied (ticketOf (shared .tickets) team) note → After (Step team) (requestDone (shared .book) (shared .tickets) (shared .ranks) (Step team))
       by-note none is absent = absurd (false≢true (sym (ap hasTicket absent) ∙ stands))
       by-note (some noted) is known = kept-by (noted .asked) noted
           record { shared = shared; n = n; table = table; good = good; team = team; inside = inside; is = is; known = known }
           (step-keeps (shared .book) (ticketOf (shared .tickets)) (wordOf (play (n .order))) team (good .agree) stands)
 
-  look-kept : (word : ℕ) → word < wordsInBook → After (Look word) (requestDone (shared .book) (shared .tickets) (Look word))
+  look-kept : (word : ℕ) → word < wordsInBook → After (Look word) (requestDone (shared .book) (shared .tickets) (shared .ranks) (Look word))
   unfolding requestDone
   look-kept word inside = by-answer (lookOf (shared .book) word) (looks-right (shared .book) (ticketOf (shared .tickets)) (wordOf (play (n .order))) word (good .agree) (omega (arith, good .whole)))
     where
@@ -136,6 +137,9 @@ module _ (shared : Shared) (n : Notes) (table : TableFits (shared .tickets)) (go
         whole = good .whole;
         agree = subst (λ book. Invariant (shared .book) (ticketOf (shared .tickets)) (wordOf book)) (sym (play-look (n .order) (good .ordered) word value)) (good .agree);
         tied = good .tied;
+        ranked = good .ranked;
+        heard-ranks = good .heard-ranks;
+        under = good .under;
         ordered = look-ordered (n .order) (good .ordered) word value agrees;
         shelved = record {
           flags = good .shelved .flags;
@@ -149,14 +153,14 @@ module _ (shared : Shared) (n : Notes) (table : TableFits (shared .tickets)) (go
       }
       by-answer Held holder = good
 
-  request-kept : (request : Request) → Passes (shared .tickets) request → After request (requestDone (shared .book) (shared .tickets) request)
+  request-kept : (request : Request) → Passes (shared .tickets) request → After request (requestDone (shared .book) (shared .tickets) (shared .ranks) request)
   unfolding requestDone
   request-kept (Open team edit) (inside, empty, fine) =
-      opens team inside (anEdit edit) (openedTicket edit) (opened-fit edit fine (length (shared .book)) (good .whole)) (opened-known edit fine) empty
+      opens team inside (anEdit edit) (openedTicket (shared .ranks) edit) (opened-fit (shared .ranks) edit fine (length (shared .book)) (good .whole)) (opened-known (shared .ranks) edit fine) empty
   request-kept (Step team) (inside, stands) = step-kept team inside stands
   request-kept (Look word) inside = look-kept word inside
   request-kept (View team many words) (inside, empty, fine) =
-      opens team inside (aView words) (openedView words) (view-fit words fine (length (shared .book)) (good .whole)) (view-known words fine) empty
+      opens team inside (aView words) (openedView (shared .ranks) words) (view-fit (shared .ranks) words fine (length (shared .book)) (good .whole)) (view-known (shared .ranks) words fine) empty
 
   -- A refusal is passed over.
   refusal-heard : (request : Request) (number : ℕ) → hearRequest n request (Answer.Refused number) ≡ n
@@ -165,11 +169,11 @@ module _ (shared : Shared) (n : Notes) (table : TableFits (shared .tickets)) (go
   refusal-heard (Look word) number = refl
   refusal-heard (View team many words) number = refl
 
-  refused-kept : (request : Request) (refusal : Option ℕ) → (refusal ≡ none → Passes (shared .tickets) request) → After request (refusedOr refusal (shared .book) (shared .tickets) request)
+  refused-kept : (request : Request) (refusal : Option ℕ) → (refusal ≡ none → Passes (shared .tickets) request) → After request (refusedOr refusal (shared .book) (shared .tickets) (shared .ranks) request)
   refused-kept request none passed = request-kept request (passed refl)
   refused-kept request (some number) passed = subst (Good shared) (sym (refusal-heard request number)) good
 
-  pub call-kept : (frame out : Bytes) → areBytes frame ≡ true → After (requestIn frame) (doneOf (shared .book) (shared .tickets) frame out)
+  pub call-kept : (frame out : Bytes) → areBytes frame ≡ true → After (requestIn frame) (doneOf (shared .book) (shared .tickets) (shared .ranks) frame out)
   unfolding doneOf
   call-kept frame out bytes =
-      refused-kept (requestIn frame) (refusalOf (shared .book) (shared .tickets) frame out) (passes (shared .book) (shared .tickets) frame out bytes)
+      refused-kept (requestIn frame) (refusalOf (shared .book) (shared .tickets) (shared .ranks) frame out) (passes (shared .book) (shared .tickets) (shared .ranks) frame out bytes)

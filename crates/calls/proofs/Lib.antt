@@ -1,5 +1,8 @@
 pub mod Computing
 pub mod RefusalOrder
+pub mod ExampleCalls
+pub mod ComputedLoads
+mod OutOfTurn
 pub mod Refusing
 pub mod Way
 pub mod WellMadeTables
@@ -25,12 +28,11 @@ pub mod EditSteps
 pub mod ViewSteps
 pub mod Kept
 pub mod Shelving
+pub mod Loading
 pub mod Demand3
 pub mod SurveyDemand3
 pub mod Returning
 pub mod Fillings
 pub mod Holding
 pub mod BenchTable
-pub mod ExampleCalls
-mod OutOfTurn
 mod RefutedEnds

@@ -6,6 +6,7 @@ use mathlib.Core.Bool.{Bool, true, false, not}
 use mathlib.Core.Option.{Option, none, some}
 use Rattle.words.specs.Words.{Words}
 use Rattle.words.specs.Tests.{someHolds}
+use Rattle.legs.specs.Positions.{Ranks}
 use Rattle.tickets.specs.declared.Tickets.{Tickets}
 use Rattle.edits.specs.declared.Edit.{Edit}
 use Rattle.edits.specs.declared.Edit.the-variants as Edit
@@ -22,19 +23,20 @@ use Rattle.frames.proofs.Asked.{requests-read-back, request-frames-whole, minut
 use Rattle.frames.proofs.Fitting.{edits-read-fit}
 use Rattle.calls.specs.declared.Reply.{Reply}
 use Rattle.calls.specs.Run.{framed, Shared, fresh, onward, answerHeard, heardOf, leftBy, runFrom}
-use Rattle.calls.specs.Call.{bookLengthWrong, outputShort, teamUnknown, ownTicketBadlyMade, opensOverTicket, stepWithoutTicket, check, firstOf, refusalChecks, refusalOf, Done, refusedOr, doneOf, writtenBy, sentOf, callOf}
+use Rattle.calls.specs.Call.{bookLengthWrong, ranksWrong, outputShort, teamUnknown, ownTicketBadlyMade, opensOverTicket, stepWithoutTicket, check, firstOf, refusalChecks, refusalOf, Done, refusedOr, doneOf, writtenBy, sentOf, callOf}
 use Rattle.calls.specs.Order.{Notes, hearAnswer, hearRequest, hearCall, notesFrom, noNotes}
-use Rattle.calls.specs.Minutes.{BehaveAlike, MinutesBehave, MinutesFramesBehave, Twins, alikeFrames, sameCall, oneOf, otherOf, AlikeInOrder}
+use Rattle.calls.specs.Minutes.{BehaveAlike, MinutesBehave, MinutesFramesBehave, Twins, alikeFrames, sameCall, oneOf, otherOf, answerTo, AlikeInOrder}
 
 -- Two whole frames that ask for the same, their angles in range, are answered alike.
 module _ (frame other : Bytes) (kind kind' : ℕ) (header : headerOf frame ≡ Kind kind) (header' : headerOf other ≡ Kind kind') (angles : angleOutOfRange frame ≡ angleOutOfRange other) (same : requestIn frame ≡ requestIn other) where
-  refused-alike : (words : Words) (tickets : Tickets) (out : Bytes) → refusalOf words tickets frame out ≡ refusalOf words tickets other out
+  refused-alike : (words : Words) (tickets : Tickets) (ranks : Ranks) (out : Bytes) → refusalOf words tickets ranks frame out ≡ refusalOf words tickets ranks other out
   unfolding refusalOf refusalChecks
-  refused-alike words tickets out =
+  refused-alike words tickets ranks out =
       let (torn, unknown, wrong, is) = kind-tests frame kind header in
       let (torn', unknown', wrong', is') = kind-tests other kind' header' in
       λ i. firstOf (
       check 1 (bookLengthWrong words)
+      ∷ check 13 (ranksWrong ranks)
       ∷ check 2 (outputShort out)
       ∷ check 3 ((torn ∙ sym torn') i)
       ∷ check 4 ((unknown ∙ sym unknown') i)
@@ -48,14 +50,14 @@ module _ (frame other : Bytes) (kind kind' : ℕ) (header : headerOf frame ≡ K
       ∷ []
       )
 
-  done-alike : (words : Words) (tickets : Tickets) (out : Bytes) → doneOf words tickets frame out ≡ doneOf words tickets other out
+  done-alike : (words : Words) (tickets : Tickets) (ranks : Ranks) (out : Bytes) → doneOf words tickets ranks frame out ≡ doneOf words tickets ranks other out
   unfolding doneOf
-  done-alike words tickets out = λ i. refusedOr (refused-alike words tickets out i) words tickets (same i)
+  done-alike words tickets ranks out = λ i. refusedOr (refused-alike words tickets ranks out i) words tickets ranks (same i)
 
-  called-alike : (words : Words) (tickets : Tickets) (out : Bytes) → callOf words tickets frame out ≡ callOf words tickets other out
+  called-alike : (words : Words) (tickets : Tickets) (ranks : Ranks) (out : Bytes) → callOf words tickets ranks frame out ≡ callOf words tickets ranks other out
   unfolding callOf
-  called-alike words tickets out = λ i.
-      let result = done-alike words tickets out i in
+  called-alike words tickets ranks out = λ i.
+      let result = done-alike words tickets ranks out i in
       let output = writtenBy out (sentOf (result .answer)) in
       (record { written = output .0; tickets = result .tickets }, result .words, output .1)
 
@@ -94,22 +96,27 @@ minutes-frames-behave team edit fits angles =
 -- Two calls that are alike leave the same and are answered alike.
 left-alike : (shared : Shared) (twins : Twins) → leftBy shared (oneOf twins) ≡ leftBy shared (otherOf twins)
 left-alike shared (alikeFrames frame other out alike) =
-    ap (λ (result : Reply × Words × Bytes). onward shared (result .1) (result .0 .tickets)) (alike .called (shared .book) (shared .tickets) out)
+    ap (λ (result : Reply × Words × Bytes). onward shared (result .1) (result .0 .tickets)) (alike .called (shared .book) (shared .tickets) (shared .ranks) out)
 left-alike shared (sameCall call) = refl
 
 answer-alike : (shared : Shared) (twins : Twins) → answerHeard (heardOf shared (oneOf twins)) ≡ answerHeard (heardOf shared (otherOf twins))
 unfolding answerHeard
 answer-alike shared (alikeFrames frame other out alike) =
-    ap (λ (result : Reply × Words × Bytes). answerHeard (record { call = framed frame out; returned = result .0 .written; output = result .2 })) (alike .called (shared .book) (shared .tickets) out)
+    ap (λ (result : Reply × Words × Bytes). answerHeard (record { call = framed frame out; returned = result .0 .written; output = result .2 })) (alike .called (shared .book) (shared .tickets) (shared .ranks) out)
 answer-alike shared (sameCall call) = refl
 
+told-alike : (shared : Shared) (twins : Twins) → answerTo (heardOf shared (oneOf twins)) ≡ answerTo (heardOf shared (otherOf twins))
+told-alike shared (alikeFrames frame other out alike) =
+    ap (λ (result : Reply × Words × Bytes). (result .0 .written, result .2)) (alike .called (shared .book) (shared .tickets) (shared .ranks) out)
+told-alike shared (sameCall call) = refl
+
 -- So do two lists of them, from wherever they begin.
-answers-alike : (twins : List Twins) (shared : Shared) → map answerHeard (runFrom shared (map oneOf twins) .heard) ≡ map answerHeard (runFrom shared (map otherOf twins) .heard)
+answers-alike : (twins : List Twins) (shared : Shared) → map answerTo (runFrom shared (map oneOf twins) .heard) ≡ map answerTo (runFrom shared (map otherOf twins) .heard)
 unfolding runFrom
 answers-alike [] shared = refl
 answers-alike (first ∷ twins) shared = λ i.
-    answer-alike shared first i
-    ∷ (ap (λ (left : Shared). map answerHeard (runFrom left (map oneOf twins) .heard)) (left-alike shared first) ∙ answers-alike twins (leftBy shared (otherOf first))) i
+    told-alike shared first i
+    ∷ (ap (λ (left : Shared). map answerTo (runFrom left (map oneOf twins) .heard)) (left-alike shared first) ∙ answers-alike twins (leftBy shared (otherOf first))) i
 
 ends-alike : (twins : List Twins) (shared : Shared) → runFrom shared (map oneOf twins) .end ≡ runFrom shared (map otherOf twins) .end
 unfolding runFrom

@@ -13,6 +13,7 @@ use Rattle.tickets.specs.Targets.{targetIn}
 use Rattle.edits.specs.declared.Edit.{Edit}
 use Rattle.edits.specs.Edits.{listedTargets}
 use Rattle.edits.specs.Ranges.{editAllowed, editStationsInRange}
+use Rattle.legs.specs.Positions.{Ranks}
 use Rattle.edits.specs.Opened.{storedTargets}
 use Rattle.edits.proofs.Stored.{some-listed-stored, some-stored-listed}
 use Rattle.plain.specs.Plain.{Plain, wordOf, legsInBook, Sound}
@@ -43,10 +44,10 @@ pub record Fine (edit : Edit) : Type 0 where
   pub stations : editStationsInRange edit ≡ true
 
 -- The targets listed and the targets stored are the same.
-same-targets : (edit : Edit) → SameTargets (listedTargets edit) (storedTargets edit)
-same-targets edit = record {
-  forth = λ k below. some-listed-stored (λ (one : Target). one ≡ targetIn (listedTargets edit) k) edit (k, below, refl);
-  back = λ k below. some-stored-listed (λ (one : Target). one ≡ targetIn (storedTargets edit) k) edit (k, below, refl);
+same-targets : (ranks : Ranks) (edit : Edit) → SameTargets (listedTargets edit) (storedTargets ranks edit)
+same-targets ranks edit = record {
+  forth = λ k below. some-listed-stored ranks (λ (one : Target). one ≡ targetIn (listedTargets edit) k) edit (k, below, refl);
+  back = λ k below. some-stored-listed ranks (λ (one : Target). one ≡ targetIn (storedTargets ranks edit) k) edit (k, below, refl);
 }
 
 -- A view's place, if it has one, is reserved in the order, and the plain book there is the one of its last claim.
@@ -168,9 +169,9 @@ module _ (order : List Event) (so-far : Ordered order) where
     }
 
   module _ (edit : Edit) (fine : Fine edit) where
-    -- The law of the edit at its turn, for its targets as stored.
-    pub stored-law : EditLawFor (storedTargets edit) (play order) edit
-    stored-law = law-in-any-order (play order) (so-far .sound) edit (fine .allowed) (fine .stations) (storedTargets edit) (same-targets edit)
+    -- The law of the edit at its turn, for its targets as stored under any ranks.
+    pub stored-law : (ranks : Ranks) → EditLawFor (storedTargets ranks edit) (play order) edit
+    stored-law ranks = law-in-any-order (play order) (so-far .sound) edit (fine .allowed) (fine .stations) (storedTargets ranks edit) (same-targets ranks edit)
 
     -- An edit that succeeds,
     module _ (succeeded : succeeds (play order) edit ≡ true) where

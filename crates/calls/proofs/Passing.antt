@@ -6,6 +6,7 @@ use Prim.Native.Nat.{_<_}
 use borrow.Author.Tests.{ltb-true, not-false}
 use Rattle.words.specs.Tests.{allHold}
 use Rattle.words.specs.Words.{Words, wordsInBook, teamCount}
+use Rattle.legs.specs.Positions.{Ranks}
 use Rattle.tickets.specs.declared.Tickets.{Tickets}
 use Rattle.tickets.specs.Tickets.{ticketOf, hasTicket}
 use Rattle.edits.specs.declared.Edit.{Edit}
@@ -32,10 +33,10 @@ Passes tickets (Step team) = (team < teamCount) × (hasTicket (ticketOf tickets 
 Passes tickets (Look word) = word < wordsInBook
 Passes tickets (View team n words) = (team < teamCount) × (hasTicket (ticketOf tickets team .phase) ≡ false) × FineView words
 
-module _ (words : Words) (tickets : Tickets) (frame out : Bytes) (bytes : areBytes frame ≡ true) where
-  pub passes : refusalOf words tickets frame out ≡ none → Passes tickets (requestIn frame)
+module _ (words : Words) (tickets : Tickets) (ranks : Ranks) (frame out : Bytes) (bytes : areBytes frame ≡ true) where
+  pub passes : refusalOf words tickets ranks frame out ≡ none → Passes tickets (requestIn frame)
   passes none-given =
-      let known = passed words tickets frame out none-given in
+      let known = passed words tickets ranks frame out none-given in
       of-request (requestIn frame) refl (known .known-team) (known .opens-alone) (known .step-allowed) (known .in-range) (known .named-once) (request-sized known)
     where
       of-request : (request : Request) → requestIn frame ≡ request → teamUnknown request ≡ false → opensOverTicket tickets request ≡ false

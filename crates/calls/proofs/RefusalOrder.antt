@@ -1,4 +1,4 @@
--- The order of the refusals 7 to 11, computed: each call that breaks two of these rules is refused by the first.
+-- The order of the refusals 1, 13 and 2, and of 7 to 11, computed: each call that breaks two of these rules is refused by the first.
 use Prim.Native.Nat.{ℕ}
 use mathlib.Core.Path.{_≡_, refl}
 use mathlib.Core.List.{[], _∷_, map}
@@ -6,6 +6,7 @@ use mathlib.Core.Option.{none, some}
 use lib.ListN.{replicate}
 use lib.IntN.{pos}
 use Rattle.words.specs.Words.{Words, mostTargets, wordsInBook}
+use Rattle.legs.specs.Positions.{fixedRanks}
 use Rattle.legs.specs.declared.Stations.{Stations}
 use Rattle.legs.specs.declared.Measure.{Measure}
 use Rattle.tickets.specs.declared.Phase.{Phase}
@@ -61,12 +62,22 @@ repeats = adding sameStations thatMeasure
 abbrev pub bothFaults : Edit
 bothFaults = adding sameStations (measured 5000 (pos 9001))
 
+-- 1; 13, and before 2 and 3; 2, and before 3.
+refusals-1-13-2 :
+    refusalOf [] freshTickets [] [] []
+    ∷ refusalOf book freshTickets [] [] []
+    ∷ refusalOf book freshTickets fixedRanks [] []
+    ∷ []
+    ≡ map some (1 ∷ 13 ∷ 2 ∷ [])
+unfolding everything
+refusals-1-13-2 = refl
+
 -- 7, and before 8, 10 and 11; 8 before 10 and 11; 9; another team's damaged ticket is nothing to a team.
 refusals-7-to-9 :
-    refusalOf book (withTicket freshTickets 0 sevenTargets) (requestFrame (Step 0)) out
-    ∷ refusalOf book (withTicket freshTickets 0 allClaimed) (requestFrame (Open 0 bothFaults)) out
-    ∷ refusalOf book (withTicket freshTickets 0 (openedTicket repeats)) (requestFrame (Open 0 bothFaults)) out
-    ∷ refusalOf book (withTicket freshTickets 0 sevenTargets) (requestFrame (Step 1)) out
+    refusalOf book (withTicket freshTickets 0 sevenTargets) fixedRanks (requestFrame (Step 0)) out
+    ∷ refusalOf book (withTicket freshTickets 0 allClaimed) fixedRanks (requestFrame (Open 0 bothFaults)) out
+    ∷ refusalOf book (withTicket freshTickets 0 (openedTicket fixedRanks repeats)) fixedRanks (requestFrame (Open 0 bothFaults)) out
+    ∷ refusalOf book (withTicket freshTickets 0 sevenTargets) fixedRanks (requestFrame (Step 1)) out
     ∷ []
     ≡ map some (7 ∷ 7 ∷ 8 ∷ 9 ∷ [])
 unfolding everything
@@ -74,10 +85,10 @@ refusals-7-to-9 = refl
 
 -- 10, of a look, and before 11; 11; and no refusal.
 refusals-10-and-11 :
-    refusalOf book freshTickets (requestFrame (Look 4096)) out
-    ∷ refusalOf book freshTickets (requestFrame (Open 0 bothFaults)) out
-    ∷ refusalOf book freshTickets (requestFrame (Open 0 repeats)) out
-    ∷ refusalOf book freshTickets (requestFrame (Open 0 (adding stations thatMeasure))) out
+    refusalOf book freshTickets fixedRanks (requestFrame (Look 4096)) out
+    ∷ refusalOf book freshTickets fixedRanks (requestFrame (Open 0 bothFaults)) out
+    ∷ refusalOf book freshTickets fixedRanks (requestFrame (Open 0 repeats)) out
+    ∷ refusalOf book freshTickets fixedRanks (requestFrame (Open 0 (adding stations thatMeasure))) out
     ∷ []
     ≡ some 10 ∷ some 10 ∷ some 11 ∷ none ∷ []
 unfolding everything

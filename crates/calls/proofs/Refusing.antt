@@ -1,17 +1,19 @@
--- The first test that applies is given, and none otherwise: its number is 1 to 11, and where none applies, each test fails; what that says of the frame and of the words that a view names.
+-- The first check that applies is given, and none otherwise: its number is 1, 13 or 2, or 3 to 11, and where none applies, each test fails; what that says of the frame and of the words that a view names.
 use Prim.Native.Nat.{ℕ, zero, suc, _+_, _-_, _/_, _≤_, _<_}
-use mathlib.Core.Path.{_≡_, refl, ap}
+use mathlib.Core.Path.{_≡_, refl, sym, ap, _∙_}
 use mathlib.Core.Bool.{Bool, true, false, cond, not, false≢true, true≢false}
 use mathlib.Core.List.{List, [], _∷_}
 use mathlib.Core.Option.{Option, none, some}
+use mathlib.Core.Logic.{_≢_, _⊎_, inl, inr}
+use native.Mathlib.Decide.{decLt}
 use native.Mathlib.Omega.{arith}
-use borrow.Author.Tests.{ltb-false, eqb-true, eq-eqb, ne-eqb, not-false}
-use native.Mathlib.Decide.{ℕ-discrete}
-use lib.Dec.{eqb, ltb}
+use borrow.Author.Tests.{leb-true, ltb-false, eqb-true, ne-eqb, not-false}
+use lib.Dec.{eqb, leb, ltb}
 use lib.ListN.{length}
-use Rattle.words.specs.Tests.{someHolds}
+use Rattle.words.specs.Tests.{allHold, someHolds, within, Every}
 use Rattle.words.specs.Words.{Words, mostTargets}
 use Rattle.words.proofs.Tests.{split, join}
+use Rattle.legs.specs.Positions.{Ranks}
 use Rattle.tickets.specs.declared.Ticket.{Ticket}
 use Rattle.tickets.specs.declared.Tickets.{Tickets}
 use Rattle.tickets.specs.Tickets.{hasTicket, wellMade}
@@ -22,7 +24,7 @@ use Rattle.frames.specs.Requests.{lengthField, kindField, headBytes, partAfterK
 use Rattle.frames.specs.Fields.{longestFrame, frameTorn, kindUnknown, lengthWrong, ViewFields, FieldsOf, Whole, angleOutOfRange, requestOutOfRange, fieldOutOfRange, fieldRepeated}
 use Rattle.frames.proofs.Bytes.{length-numbers16}
 use Rattle.frames.proofs.Headers.{whole}
-use Rattle.calls.specs.Call.{bookLengthWrong, outputShort, teamUnknown, badlyMade, ownTicketBadlyMade, opensOverTicket, stepWithoutTicket, Check, check, firstOf, isReturned, refusalChecks, refusalOf}
+use Rattle.calls.specs.Call.{bookLengthWrong, ranksWrong, outputShort, teamUnknown, badlyMade, ownTicketBadlyMade, opensOverTicket, stepWithoutTicket, Check, check, firstOf, isReturned, refusalChecks, refusalOf}
 
 -- Checks whose numbers follow each other.
 abbrev pub numbered : ℕ → List Bool → List Check
@@ -32,64 +34,60 @@ numbered number (applies ∷ later) = check number applies ∷ numbered (number 
 abbrev pub firstFrom : ℕ → List Bool → Option ℕ
 firstFrom number tests = firstOf (numbered number tests)
 
--- The tests of the refusals 1 to 11.
-abbrev pub refusalTests : Words → Tickets → Bytes → Bytes → List Bool
-refusalTests words tickets frame out =
-    let request = requestIn frame in
-    bookLengthWrong words
-    ∷ outputShort out
-    ∷ frameTorn frame
-    ∷ kindUnknown frame
-    ∷ lengthWrong frame
-    ∷ teamUnknown request
-    ∷ ownTicketBadlyMade tickets request
-    ∷ opensOverTicket tickets request
-    ∷ stepWithoutTicket tickets request
-    ∷ fieldOutOfRange frame request
-    ∷ fieldRepeated request
-    ∷ []
+-- The number of a refusal from 3 to 11 is not returned alone, and no count of bytes is taken for one: 13 is odd.
+pub not-returned : (refusal : ℕ) → 3 ≤ refusal → refusal ≢ 13 → isReturned refusal ≡ false
+not-returned refusal large other = simp (ne-eqb refusal 1 (λ e. omega arith), ne-eqb refusal 13 other, ne-eqb refusal 2 (λ e. omega arith))
 
--- The number of a refusal from 3 on is not returned alone, 1 and 2 are.
-pub not-returned : (refusal : ℕ) → 3 ≤ refusal → isReturned refusal ≡ false
-not-returned refusal large = rw (ne-eqb refusal 1 (λ e. omega arith), ne-eqb refusal 2 (λ e. omega arith)) refl
-
-pub returned-alone : (refusal : ℕ) → 1 ≤ refusal → refusal < 3 → isReturned refusal ≡ true
-returned-alone refusal least small = elim (ℕ-discrete refusal 1) [
-  | yes one ↦ rw (eq-eqb refusal 1 one) refl
-  | no other ↦ rw (ne-eqb refusal 1 other, eq-eqb refusal 2 (omega arith)) refl
+-- One that is, is small.
+pub returned-small : (refusal : ℕ) → isReturned refusal ≡ true → refusal < 65536
+returned-small refusal alone = elim (decLt refusal 65536) [
+  | yes small ↦ small
+  | no large ↦ absurd (false≢true (sym (not-returned refusal (omega arith) (λ e. omega arith)) ∙ alone))
 ]
 
--- A number given is that of one of the tests,
-abbrev pub Among : ℕ → ℕ → Option ℕ → Type 0
-Among first many none = Unit {0}
-Among first many (some number) = (first ≤ number) × (number < first + many)
+-- A refusal is one that is returned alone, or one of 3 to 11.
+abbrev pub Sorted : ℕ → Type 0
+Sorted refusal = (isReturned refusal ≡ true) ⊎ ((3 ≤ refusal) × (refusal ≤ 11))
 
-later-among : (first many : ℕ) (given : Option ℕ) → Among (first + 1) many given → Among first (suc many) given
-later-among first many none among = tt
-later-among first many (some number) among = (omega arith, omega arith)
+-- The number given, if one is, is that of one of the checks.
+abbrev pub Given : (ℕ → Type 0) → Option ℕ → Type 0
+Given P none = Unit {0}
+Given P (some number) = P number
 
-first-among : (first : ℕ) (tests : List Bool) → Among first (length tests) (firstFrom first tests)
-first-among first [] = tt
-first-among first (true ∷ tests) = (omega arith, omega arith)
-first-among first (false ∷ tests) = later-among first (length tests) (firstFrom (first + 1) tests) (first-among (first + 1) tests)
+pub first-given : (P : ℕ → Type 0) (checks : List Check) → Every (λ one. P (one .number)) checks → Given P (firstOf checks)
+first-given P [] all = tt
+first-given P (one ∷ later) all = by (one .applies) (first-given P later (all .1))
+  where
+    by : (applies : Bool) → Given P (firstOf later) → Given P (cond applies (some (one .number)) (firstOf later))
+    by true rest = all .0
+    by false rest = rest
 
--- 1 to 11.
-pub refusal-among : (words : Words) (tickets : Tickets) (frame out : Bytes) → Among 1 11 (refusalOf words tickets frame out)
-unfolding refusalOf refusalChecks
-refusal-among words tickets frame out = first-among 1 (refusalTests words tickets frame out)
+abbrev pub AllSorted : Option ℕ → Type 0
+AllSorted refusal = Given Sorted refusal
 
--- and where none is given, every test fails.
-abbrev AllFalse : List Bool → Type 0
-AllFalse [] = Unit {0}
-AllFalse (test ∷ tests) = (test ≡ false) × AllFalse tests
+in-frame : (refusal : ℕ) → within 3 11 refusal ≡ true → Sorted refusal
+in-frame refusal inside = let (least, (most, u)) = split (leb 3 refusal ∷ leb refusal 11 ∷ []) inside in inr (leb-true _ _ least, leb-true _ _ most)
 
+pub refusal-sorted : (words : Words) (tickets : Tickets) (ranks : Ranks) (frame out : Bytes) → AllSorted (refusalOf words tickets ranks frame out)
+unfolding refusalOf refusalChecks allHold
+refusal-sorted words tickets ranks frame out =
+    let framed : Every Sorted (3 ∷ 4 ∷ 5 ∷ 6 ∷ 7 ∷ 8 ∷ 9 ∷ 10 ∷ 11 ∷ []) =
+    (in-frame 3 refl, (in-frame 4 refl, (in-frame 5 refl, (in-frame 6 refl, (in-frame 7 refl, (in-frame 8 refl, (in-frame 9 refl, (in-frame 10 refl, (in-frame 11 refl, tt))))))))) in
+    first-given Sorted (refusalChecks words tickets ranks frame out) (inl refl, (inl refl, (inl refl, framed)))
+
+-- Where none is given, none applies.
 some-given : (number : ℕ) → some number ≡ none → ⊥
 some-given number e = let z : _≡_ {A = ℕ} 0 1 = cc in omega arith
 
-none-first : (first : ℕ) (tests : List Bool) → firstFrom first tests ≡ none → AllFalse tests
-none-first first [] e = tt
-none-first first (true ∷ tests) e = absurd (some-given first e)
-none-first first (false ∷ tests) e = (refl, none-first (first + 1) tests e)
+pub none-applies : (checks : List Check) → firstOf checks ≡ none → Every (λ one. one .applies ≡ false) checks
+none-applies [] e = tt
+none-applies (one ∷ later) e = by (one .applies) refl e (none-applies later)
+  where
+    by : (applies : Bool) → one .applies ≡ applies → cond applies (some (one .number)) (firstOf later) ≡ none
+        → (firstOf later ≡ none → Every (λ one. one .applies ≡ false) later)
+        → Every (λ one. one .applies ≡ false) (one ∷ later)
+    by true is e rest = absurd (some-given (one .number) e)
+    by false is e rest = (is, rest e)
 
 second-fails : (first second : Bool) → someHolds (first ∷ second ∷ []) ≡ false → second ≡ false
 unfolding someHolds
@@ -98,8 +96,9 @@ second-fails false true fails = absurd (true≢false fails)
 second-fails false false fails = refl
 
 -- What is known of a call that is not refused.
-pub record Passed (words : Words) (tickets : Tickets) (frame out : Bytes) : Type 0 where
+pub record Passed (words : Words) (tickets : Tickets) (ranks : Ranks) (frame out : Bytes) : Type 0 where
   pub whole-book : bookLengthWrong words ≡ false
+  pub right-ranks : ranksWrong ranks ≡ false
   pub room : outputShort out ≡ false
   pub whole-frame : frameTorn frame ≡ false
   pub known-kind : kindUnknown frame ≡ false
@@ -111,12 +110,13 @@ pub record Passed (words : Words) (tickets : Tickets) (frame out : Bytes) : Type
   pub in-range : requestOutOfRange (requestIn frame) ≡ false
   pub named-once : fieldRepeated (requestIn frame) ≡ false
 
-pub passed : (words : Words) (tickets : Tickets) (frame out : Bytes) → refusalOf words tickets frame out ≡ none → Passed words tickets frame out
+pub passed : (words : Words) (tickets : Tickets) (ranks : Ranks) (frame out : Bytes) → refusalOf words tickets ranks frame out ≡ none → Passed words tickets ranks frame out
 unfolding refusalOf refusalChecks
-passed words tickets frame out none-given =
-    let (one, (two, (three, (four, (five, (six, (seven, (eight, (nine, (ten, (eleven, u))))))))))) = none-first 1 (refusalTests words tickets frame out) none-given in
+passed words tickets ranks frame out none-given =
+    let (one, (thirteen, (two, (three, (four, (five, (six, (seven, (eight, (nine, (ten, (eleven, u)))))))))))) = none-applies (refusalChecks words tickets ranks frame out) none-given in
     record {
       whole-book = cc;
+      right-ranks = cc;
       room = cc;
       whole-frame = cc;
       known-kind = cc;
@@ -171,7 +171,7 @@ kind-sized kind part fields = by (eqb kind stepKind) (eqb kind lookKind) (eqb ki
     by false false true fields = named-many part fields
     by false false false fields = tt
 
-pub request-sized : {words : Words} {tickets : Tickets} {frame out : Bytes} → Passed words tickets frame out → Sized (requestIn frame)
+pub request-sized : {words : Words} {tickets : Tickets} {ranks : Ranks} {frame out : Bytes} → Passed words tickets ranks frame out → Sized (requestIn frame)
 unfolding requestIn
 request-sized {frame = frame} known = kind-sized (kindField frame) (partAfterKind frame) (frame-whole frame (known .whole-frame) (known .known-kind) (known .due-length) .fields)
 

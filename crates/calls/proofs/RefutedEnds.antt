@@ -4,13 +4,14 @@ use mathlib.Core.Bool.{Bool, true, false, not, false≢true}
 use mathlib.Core.List.{List, [], _∷_}
 use mathlib.Core.Logic.{inl, inr}
 use mathlib.Core.Option.{none, some}
+use Rattle.legs.specs.Positions.{fixedRanks}
 use Rattle.calls.specs.Order.{Verdict, granted, stale, Asked, anEdit, aView, Decision, Noted, noted, Last, wasGranted, wasStale, wasSeen, Ended, endedBy}
 use Rattle.calls.specs.Linearizable.{EndedRight, StandingRight, FoundFits}
 use Rattle.calls.specs.Bench.{thatMeasure, firstLeg}
 
 -- A view of word 2 that claimed it, gave it back, and ended with this answer.
 abbrev viewed : Last → Ended
-viewed last = endedBy (noted (aView (2 ∷ [])) (1 ∷ []) [] 2 0 none [] (some [])) last
+viewed last = endedBy (noted (aView (2 ∷ [])) fixedRanks (1 ∷ []) [] 2 0 none [] (some [])) last
 
 view-granted : EndedRight (viewed (wasGranted 2)) → ⊥
 view-granted right = right .shows
@@ -22,7 +23,7 @@ view-stale right = right .shows
 abbrev granted-at-once : Decision
 granted-at-once = record { verdict = granted; before = [] }
 
-edit-seen : EndedRight (endedBy (noted (anEdit (firstLeg 1 0 thatMeasure)) [] [] 10 0 none (granted-at-once ∷ []) none) (wasSeen (0 ∷ []))) → ⊥
+edit-seen : EndedRight (endedBy (noted (anEdit (firstLeg 1 0 thatMeasure)) fixedRanks [] [] 10 0 none (granted-at-once ∷ []) none) (wasSeen (0 ∷ []))) → ⊥
 edit-seen right = right .fits
 
 -- An add decided as stale, its ticket still standing, and no Found came.
@@ -39,7 +40,7 @@ latestVerdict [] = stale
 latestVerdict (latest ∷ earlier) = latest .verdict
 
 abbrev unfound : Noted
-unfound = noted (anEdit (firstLeg 1 1 thatMeasure)) (1 ∷ []) [] 2 0 none (stale-at-once ∷ []) none
+unfound = noted (anEdit (firstLeg 1 1 thatMeasure)) fixedRanks (1 ∷ []) [] 2 0 none (stale-at-once ∷ []) none
 
 stale-without-found : StandingRight (some unfound) → ⊥
 stale-without-found (inl undecided) = false≢true (ap (λ made. not (wasDecided made)) (undecided .0))

@@ -29,8 +29,9 @@ use Rattle.frames.specs.Request.{Request, Open, Step, Look, View}
 use Rattle.frames.specs.Requests.{requestIn}
 use Rattle.calls.specs.Call.{refusalOf, requestDone, refusedOr, doneOf, callOf, bookLengthWrong}
 use Rattle.calls.specs.Outcomes.{outcomeOf, numberOf, ticketStands}
+use Rattle.calls.specs.Loading.{loadOf}
 use Rattle.calls.specs.Shelves.{shelfAt, shelfOf, withShelf, Filled, storeLengthWrong, shelfUnknown, neverFilled, shelfRefusal, fillRefusal, backRefusal, filledBy, fillOf, backBy, backOf}
-use Rattle.calls.specs.Run.{Call, framed, filling, comingBack, theStore, another, Lent, LentRight, Admitted, Shared, fresh, onward, Heard, heardOf, leftBy, lentBy, storeAfter, runFrom, run}
+use Rattle.calls.specs.Run.{Call, framed, loading, filling, comingBack, theStore, another, Lent, LentRight, Admitted, Shared, fresh, onward, underRanks, Heard, heardOf, leftBy, lentBy, storeAfter, runFrom, run}
 use Rattle.calls.specs.Order.{Notes, noNotes, hearCall, notesFrom}
 use Rattle.calls.specs.Demand1.{TableFits}
 use Rattle.calls.specs.Returning.{KeepsApart, ShelvesKeepApart, Went, NotFilled, returnedTo, ComesNotBack, ReturnsTo, ComingBackReturns}
@@ -75,9 +76,9 @@ emptied-with tickets team ticket teams empty mine other inside none-stands = eli
 ]
 
 module _ (shared : Shared) (n : Notes) (table : TableFits (shared .tickets)) (good : Good shared n) (empty : Emptied (shared .tickets)) where
-  request-empties : (request : Request) → Passes (shared .tickets) request → Emptied (requestDone (shared .book) (shared .tickets) request .tickets)
+  request-empties : (request : Request) → Passes (shared .tickets) request → Emptied (requestDone (shared .book) (shared .tickets) (shared .ranks) request .tickets)
   unfolding requestDone openedTicket openedView
-  request-empties (Open team edit) passed = emptied-with (shared .tickets) team (openedTicket edit) (table .teams) empty (inl refl)
+  request-empties (Open team edit) passed = emptied-with (shared .tickets) team (openedTicket (shared .ranks) edit) (table .teams) empty (inl refl)
   request-empties (Step team) (inside, stands) =
       let ticket = ticketOf (shared .tickets) team in
       let made = fit-well-made ticket (subst (λ size. FitSlot size ticket) (good .whole) (good .agree .fit team)) stands in
@@ -87,15 +88,15 @@ module _ (shared : Shared) (n : Notes) (table : TableFits (shared .tickets)) (go
         | inr gone ↦ inr gone
       ])
   request-empties (Look word) passed = empty
-  request-empties (View team many words) passed = emptied-with (shared .tickets) team (openedView words) (table .teams) empty (inl refl)
+  request-empties (View team many words) passed = emptied-with (shared .tickets) team (openedView (shared .ranks) words) (table .teams) empty (inl refl)
 
-  refused-empties : (request : Request) (refusal : Option ℕ) → (refusal ≡ none → Passes (shared .tickets) request) → Emptied (refusedOr refusal (shared .book) (shared .tickets) request .tickets)
+  refused-empties : (request : Request) (refusal : Option ℕ) → (refusal ≡ none → Passes (shared .tickets) request) → Emptied (refusedOr refusal (shared .book) (shared .tickets) (shared .ranks) request .tickets)
   refused-empties request none passed = request-empties request (passed refl)
   refused-empties request (some number) passed = empty
 
-  call-empties : (frame out : Bytes) → areBytes frame ≡ true → Emptied (callOf (shared .book) (shared .tickets) frame out .0 .tickets)
+  call-empties : (frame out : Bytes) → areBytes frame ≡ true → Emptied (callOf (shared .book) (shared .tickets) (shared .ranks) frame out .0 .tickets)
   unfolding callOf doneOf
-  call-empties frame out bytes = refused-empties (requestIn frame) (refusalOf (shared .book) (shared .tickets) frame out) (passes (shared .book) (shared .tickets) frame out bytes)
+  call-empties frame out bytes = refused-empties (requestIn frame) (refusalOf (shared .book) (shared .tickets) (shared .ranks) frame out) (passes (shared .book) (shared .tickets) (shared .ranks) frame out bytes)
 
 -- What a store keeps on its shelves.
 pub shelves-keep-apart : ShelvesKeepApart
@@ -133,11 +134,13 @@ between-call call admitted shared n at = record {
   where
     good-by : (call : Call) → Admitted call → Good (leftBy shared call) (hearCall n call (heardOf shared call))
     good-by (framed frame out) bytes = calls-keep (framed frame out ∷ []) (bytes, tt) shared n (at .table) (at .good)
+    good-by (loading ranks) right = calls-keep (loading ranks ∷ []) (right, tt) shared n (at .table) (at .good)
     good-by (filling shelf lent) right = calls-keep (filling shelf lent ∷ []) (right, tt) shared n (at .table) (at .good)
     good-by (comingBack shelf lent) right = calls-keep (comingBack shelf lent ∷ []) (right, tt) shared n (at .table) (at .good)
 
     by : (call : Call) → Admitted call → Emptied (leftBy shared call .tickets)
     by (framed frame out) bytes = call-empties shared n (at .table) (at .good) (at .empty) frame out bytes
+    by (loading ranks) right = at .empty
     by (filling shelf lent) right = at .empty
     by (comingBack shelf lent) right = at .empty
 
@@ -152,6 +155,7 @@ module _ (shared : Shared) (whole : length (shared .book) ≡ wordsInBook) (shel
   Left lent refusal = Keeps shelf book record {
     book = shared .book;
     tickets = shared .tickets;
+    ranks = shared .ranks;
     store = storeAfter shared lent (filledBy refusal (shared .book) (lentBy shared lent) (shared .filled) other .1);
     filled = filledBy refusal (shared .book) (lentBy shared lent) (shared .filled) other .2;
   }
@@ -194,11 +198,13 @@ keeps-run shelf inside book (call ∷ calls) admitted shared n at none-filled ke
   where
     by : (call : Call) → Admitted call → NotFilled shelf (heardOf shared call) → Keeps shelf book (leftBy shared call)
     by (framed frame out) bytes not-filled = keeps
+    by (loading ranks) right not-filled = keeps
     by (filling other lent) right not-filled = fill-keeps shared (at .good .whole) shelf inside book keeps other lent right not-filled
     by (comingBack other lent) right not-filled = keeps
 
 same-call : (shared : Shared) (call : Call) → heardOf shared call .call ≡ call
 same-call shared (framed frame out) = refl
+same-call shared (loading ranks) = refl
 same-call shared (filling shelf lent) = refl
 same-call shared (comingBack shelf lent) = refl
 
@@ -233,26 +239,31 @@ module _ (shared : Shared) (shelf : ℕ) (long : length (shared .store) ≡ word
       by false false false false is known =
           length-with (shared .store) (shared .book) shelf long (eqb-true _ _ (not-false _ is)) (ltb-true shelf shelfCount (not-false _ known))
 
--- Where none comes back, calls are answered alike by books and tickets alone, whatever two stores keep.
-calls-alike : (calls : List Call) → Every ComesNotBack calls → (one two : Shared) → one .book ≡ two .book → one .tickets ≡ two .tickets
+-- Where none comes back, calls are answered alike by books, tickets and ranks alone, whatever two stores keep.
+calls-alike : (calls : List Call) → Every ComesNotBack calls → (one two : Shared) → one .book ≡ two .book → one .tickets ≡ two .tickets → one .ranks ≡ two .ranks
     → length (one .store) ≡ wordsInStore → length (two .store) ≡ wordsInStore → runFrom one calls .heard ≡ runFrom two calls .heard
 unfolding runFrom fillOf fillRefusal
-calls-alike [] stays one two books tables long-one long-two = refl
-calls-alike (framed frame out ∷ calls) stays one two books tables long-one long-two =
+calls-alike [] stays one two books tables same-ranks long-one long-two = refl
+calls-alike (framed frame out ∷ calls) stays one two books tables same-ranks long-one long-two =
     let call = framed frame out in
     (λ i. record {
       call = call;
-      returned = callOf (books i) (tables i) frame out .0 .written;
-      output = callOf (books i) (tables i) frame out .2;
+      returned = callOf (books i) (tables i) (same-ranks i) frame out .0 .written;
+      output = callOf (books i) (tables i) (same-ranks i) frame out .2;
     } ∷ runFrom (leftBy one call) calls .heard)
     ∙ ap (λ rest. heardOf two call ∷ rest)
-    (calls-alike calls (stays .1) (leftBy one call) (leftBy two call) (λ i. callOf (books i) (tables i) frame out .1) (λ i. callOf (books i) (tables i) frame out .0 .tickets) long-one long-two)
-calls-alike (comingBack shelf lent ∷ calls) stays one two books tables long-one long-two = absurd (stays .0)
-calls-alike (filling shelf lent ∷ calls) stays one two books tables long-one long-two =
+    (calls-alike calls (stays .1) (leftBy one call) (leftBy two call) (λ i. callOf (books i) (tables i) (same-ranks i) frame out .1) (λ i. callOf (books i) (tables i) (same-ranks i) frame out .0 .tickets) same-ranks long-one long-two)
+calls-alike (loading ranks ∷ calls) stays one two books tables same-ranks long-one long-two =
+    let call = loading ranks in
+    (λ i. record { call = call; returned = numberOf (loadOf (books i) (tables i) (same-ranks i) ranks .0); output = [] } ∷ runFrom (leftBy one call) calls .heard)
+    ∙ ap (λ rest. heardOf two call ∷ rest)
+    (calls-alike calls (stays .1) (leftBy one call) (leftBy two call) books tables (λ i. loadOf (books i) (tables i) (same-ranks i) ranks .1) long-one long-two)
+calls-alike (comingBack shelf lent ∷ calls) stays one two books tables same-ranks long-one long-two = absurd (stays .0)
+calls-alike (filling shelf lent ∷ calls) stays one two books tables same-ranks long-one long-two =
     let call = filling shelf lent in
     (λ i. record { call = call; returned = same-number i; output = [] } ∷ runFrom (leftBy one call) calls .heard)
     ∙ ap (λ rest. heardOf two call ∷ rest)
-    (calls-alike calls (stays .1) (leftBy one call) (leftBy two call) books tables (store-long one shelf long-one lent) (store-long two shelf long-two lent))
+    (calls-alike calls (stays .1) (leftBy one call) (leftBy two call) books tables same-ranks (store-long one shelf long-one lent) (store-long two shelf long-two lent))
   where
     stores : (lent : Lent) → storeLengthWrong (lentBy one lent) ≡ storeLengthWrong (lentBy two lent)
     stores theStore = ap (λ (k : ℕ). not (eqb k wordsInStore)) (long-one ∙ sym long-two)
@@ -326,9 +337,9 @@ coming-back-returns store before between shelf first second filled-there none-fi
     let same-tickets : here .tickets ≡ there .tickets =
     same-tables (here .tickets) (there .tickets) (at-here .table .teams) (at-there .table .teams) (at-here .empty) (at-there .empty)
     (no-ticket (here .tickets) (at-here .table .teams) none-here) (no-ticket (there .tickets) (at-there .table .teams) none-there) in
-    let same-state : after ≡ returnedTo there here = λ i. record { book = same-book i; tickets = same-tickets i; store = here .store; filled = here .filled } in
+    let same-state : after ≡ returnedTo there here = λ i. record { book = same-book i; tickets = same-tickets i; ranks = here .ranks; store = here .store; filled = here .filled } in
     record {
       state = same-state;
       alike = λ later. ap (λ shared. runFrom shared later) same-state;
-      alike-there = λ later stays. calls-alike later stays after there same-book same-tickets (keeps-here .0) (keeps-there .0);
+      alike-there = λ later stays. calls-alike later stays after (underRanks there (here .ranks)) same-book same-tickets refl (keeps-here .0) (keeps-there .0);
     }

@@ -36,7 +36,7 @@ use Rattle.calls.proofs.Tied.{Tied, known-stands}
 use Rattle.calls.proofs.Turns.{placeIn, ShelfKept, ShelfTied, Shelved, Good}
 
 -- Where no ticket stands, no slot has one.
-none-below : (n : ℕ) (tickets : Tickets) → standsBelow n tickets ≡ false → (team : ℕ) → team < n → hasTicket (ticketOf tickets team .phase) ≡ false
+pub none-below : (n : ℕ) (tickets : Tickets) → standsBelow n tickets ≡ false → (team : ℕ) → team < n → hasTicket (ticketOf tickets team .phase) ≡ false
 unfolding standsBelow
 none-below zero tickets none-stands team inside = absurd (omega arith)
 none-below (suc n) tickets none-stands team inside = by (hasTicket (ticketOf tickets n .phase)) refl none-stands (λ e below. none-below n tickets e team below)
@@ -146,7 +146,7 @@ module _ (shared : Shared) (n : Notes) (table : TableFits (shared .tickets)) (go
   abbrev FilledWell : Lent → Option ℕ → Type 0
   FilledWell lent refusal =
       let result = filledBy refusal (shared .book) (lentBy shared lent) (shared .filled) shelf in
-      Good record { book = shared .book; tickets = shared .tickets; store = storeAfter shared lent (result .1); filled = result .2 }
+      Good record { book = shared .book; tickets = shared .tickets; ranks = shared .ranks; store = storeAfter shared lent (result .1); filled = result .2 }
       (cond (eqb (numberOf (result .0)) 0) (hearFilled n shelf) n)
 
   fills : storeLengthWrong (shared .store) ≡ false → ticketStands (shared .tickets) ≡ false → shelfUnknown shelf ≡ false → FilledWell theStore none
@@ -156,6 +156,9 @@ module _ (shared : Shared) (n : Notes) (table : TableFits (shared .tickets)) (go
         whole = good .whole;
         agree = subst (λ book. Invariant (shared .book) (ticketOf (shared .tickets)) (wordOf book)) (sym (play-filling (n .order) (good .ordered) shelf)) (good .agree);
         tied = good .tied;
+        ranked = good .ranked;
+        heard-ranks = good .heard-ranks;
+        under = good .under;
         ordered = filling-ordered (n .order) (good .ordered) shelf;
         shelved = record {
           flags = length-set (shared .filled) shelf true ∙ good .shelved .flags;
@@ -181,7 +184,7 @@ module _ (shared : Shared) (n : Notes) (table : TableFits (shared .tickets)) (go
       store = withShelf (shared .store) shelf (shared .book)
 
       after : Shared
-      after = record { book = shared .book; tickets = shared .tickets; store = store; filled = set (shared .filled) shelf true }
+      after = record { book = shared .book; tickets = shared .tickets; ranks = shared .ranks; store = store; filled = set (shared .filled) shelf true }
 
       mine : ShelfKept store shelf (play (n .order))
       mine = record {
@@ -292,6 +295,9 @@ module _ (shared : Shared) (n : Notes) (table : TableFits (shared .tickets)) (go
           whole = whole;
           agree = subst (λ book. Invariant (shelfOf (shared .store) shelf) (ticketOf (shared .tickets)) (wordOf book)) (sym (play-back (n .order) (good .ordered) shelf kept is)) agree;
           tied = good .tied;
+          ranked = good .ranked;
+          heard-ranks = good .heard-ranks;
+          under = good .under;
           ordered = back-ordered (n .order) (good .ordered) shelf kept is (was .sound);
           shelved = record {
             flags = good .shelved .flags;

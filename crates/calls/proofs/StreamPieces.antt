@@ -11,13 +11,14 @@ use lib.ListN.{length, take, drop, List·getD-append, length-append}
 use lib.Seq.{take-at, drop-at}
 use Rattle.words.specs.Tests.{Every}
 use Rattle.words.specs.Words.{Words, wordsInBook}
+use Rattle.legs.specs.Positions.{Ranks, Accepted}
 use Rattle.tickets.specs.declared.Tickets.{Tickets}
 use Rattle.frames.specs.Numbers.{Bytes}
 use Rattle.frames.specs.Requests.{lengthField}
 use Rattle.frames.specs.Answers.{longestAnswer}
 use Rattle.frames.proofs.Framed.{answer-frames-sound}
 use Rattle.calls.specs.declared.Stop.{Stop}
-use Rattle.calls.specs.declared.Stop.the-variants.{MoreInput, OutputFull, BadLength, NoBook}
+use Rattle.calls.specs.declared.Stop.the-variants.{MoreInput, OutputFull, BadLength, NoBook, NoRanks}
 use Rattle.calls.specs.declared.Streamed.{Streamed}
 use Rattle.calls.specs.Way.{wayOf}
 use Rattle.calls.specs.Run.{Shared, heardOf, leftBy, runFrom, sharing}
@@ -51,22 +52,22 @@ run-written shared (frame ∷ frames) later =
     ∙ sym (append-assoc own (allWritten (runOn left frames .heard)) (allWritten (runOn (runOn left frames .end) later .heard)))
 
 -- A run keeps the book's length, and writes at most 52 bytes for each two that it read.
-run-length : (words : Words) (tickets : Tickets) (frames : List Bytes) → length words ≡ wordsInBook → length (runOn (sharing words tickets) frames .end .book) ≡ wordsInBook
+run-length : (words : Words) (tickets : Tickets) (ranks : Ranks) (frames : List Bytes) → length words ≡ wordsInBook → Accepted ranks → length (runOn (sharing words tickets ranks) frames .end .book) ≡ wordsInBook
 unfolding runFrom
-run-length words tickets [] whole = whole
-run-length words tickets (frame ∷ frames) whole =
-    ap (λ (shared : Shared). length (shared .book)) (run-left words tickets frame whole frames)
-    ∙ run-length (wayOf words tickets frame .words) (wayOf words tickets frame .tickets) frames (way-length words tickets frame whole)
+run-length words tickets ranks [] whole accepted = whole
+run-length words tickets ranks (frame ∷ frames) whole accepted =
+    ap (λ (shared : Shared). length (shared .book)) (run-left words tickets ranks frame whole accepted frames)
+    ∙ run-length (wayOf words tickets ranks frame .words) (wayOf words tickets ranks frame .tickets) ranks frames (way-length words tickets ranks frame whole accepted) accepted
 
-run-short : (words : Words) (tickets : Tickets) (frames : List Bytes) → length words ≡ wordsInBook → Every WholeFrame frames
-    → 2 * length (allWritten (runOn (sharing words tickets) frames .heard)) ≤ longestAnswer * length (joined frames)
+run-short : (words : Words) (tickets : Tickets) (ranks : Ranks) (frames : List Bytes) → length words ≡ wordsInBook → Accepted ranks → Every WholeFrame frames
+    → 2 * length (allWritten (runOn (sharing words tickets ranks) frames .heard)) ≤ longestAnswer * length (joined frames)
 unfolding runFrom
-run-short words tickets [] whole all = omega arith
-run-short words tickets (frame ∷ frames) whole all =
-    let later = allWritten (runOn (leftOf words tickets frame whole) frames .heard) in
-    let short = run-short (wayOf words tickets frame .words) (wayOf words tickets frame .tickets) frames (way-length words tickets frame whole) (all .1) in
-    let wrote = ap length (run-wrote words tickets frame whole frames) ∙ length-append (answerOf words tickets frame whole) later in
-    omega (arith, short, wrote, length-append frame (joined frames), all .0 .0, answer-frames-sound (wayOf words tickets frame .answer) .most)
+run-short words tickets ranks [] whole accepted all = omega arith
+run-short words tickets ranks (frame ∷ frames) whole accepted all =
+    let later = allWritten (runOn (leftOf words tickets ranks frame whole accepted) frames .heard) in
+    let short = run-short (wayOf words tickets ranks frame .words) (wayOf words tickets ranks frame .tickets) ranks frames (way-length words tickets ranks frame whole accepted) accepted (all .1) in
+    let wrote = ap length (run-wrote words tickets ranks frame whole accepted frames) ∙ length-append (answerOf words tickets ranks frame whole accepted) later in
+    omega (arith, short, wrote, length-append frame (joined frames), all .0 .0, answer-frames-sound (wayOf words tickets ranks frame .answer) .most)
 
 -- A whole frame is known by its first bytes.
 same-field : (frame later : Bytes) → WholeFrame frame → lengthField (frame ++ later) ≡ lengthField frame
@@ -107,6 +108,7 @@ none-left MoreInput rest room (inr begun) roomy starts = omega (arith, starts .2
 none-left OutputFull rest room right roomy starts = omega (arith, roomy (starts .0), right .1)
 none-left BadLength rest room right roomy starts = omega (arith, starts .1, right .1)
 none-left NoBook rest room right roomy starts = right
+none-left NoRanks rest room right roomy starts = right
 
 abbrev stopAt : Bytes → Stop
 stopAt rest = cond (cond (ltb (length rest) 2) false (ltb longestField (lengthField rest))) BadLength MoreInput
@@ -121,6 +123,7 @@ stop-is MoreInput rest room (inr begun) none-starts = either (ltb (length rest) 
 stop-is OutputFull rest room right none-starts = absurd (none-starts (right .0))
 stop-is BadLength rest room right none-starts = rw (le-ltb (length rest) 2 (right .0), lt-ltb longestField (lengthField rest) (right .1))
 stop-is NoBook rest room right none-starts = absurd right
+stop-is NoRanks rest room right none-starts = absurd right
 
 -- Less than a whole frame is left, but for a bad length.
 few-left : (stop : Stop) (rest : Bytes) (room : ℕ) → StopRight stop rest room → (StartsWhole rest → ⊥) → (stop ≡ BadLength) ⊎ ((stop ≡ MoreInput) × (length rest < longestFrame))
@@ -129,21 +132,22 @@ few-left MoreInput rest room (inr begun) none-starts = inr (refl, omega (arith, 
 few-left OutputFull rest room right none-starts = absurd (none-starts (right .0))
 few-left BadLength rest room right none-starts = inl refl
 few-left NoBook rest room right none-starts = absurd right
+few-left NoRanks rest room right none-starts = absurd right
 
 -- What is known of a stream with room for every answer, and of what any stream wrote.
-module _ (words : Words) (tickets : Tickets) (input out : Bytes) (whole : length words ≡ wordsInBook) where
+module _ (words : Words) (tickets : Tickets) (ranks : Ranks) (input out : Bytes) (whole : length words ≡ wordsInBook) (accepted : Accepted ranks) where
   abbrev result : Streamed × Words × Bytes
-  result = streamOf words tickets input out
+  result = streamOf words tickets ranks input out
 
-  abbrev right : StreamRight (sharing words tickets) input out result
-  right = stream-is-run words tickets input out whole
+  abbrev right : StreamRight (sharing words tickets ranks) input out result
+  right = stream-is-run words tickets ranks input out whole accepted
 
   -- Where two bytes are left there is room for one more answer,
   pub room-left : Roomy input out → 2 ≤ length (drop (result .0 .consumed) input) → longestAnswer ≤ length out - result .0 .written
   room-left roomy two =
       let over = drop (result .0 .consumed) input in
       let long = ap length (right .parts) in
-      omega (arith, roomy, two, long, length-append (joined (right .frames)) over, right .written, run-short words tickets (right .frames) whole (right .all-whole))
+      omega (arith, roomy, two, long, length-append (joined (right .frames)) over, right .written, run-short words tickets ranks (right .frames) whole accepted (right .all-whole))
 
   -- so that no whole frame is left.
   pub rest-none : Roomy input out → StartsWhole (drop (result .0 .consumed) input) → ⊥
@@ -152,33 +156,33 @@ module _ (words : Words) (tickets : Tickets) (input out : Bytes) (whole : length
   few : (StartsWhole (drop (result .0 .consumed) input) → ⊥) → (result .0 .stop ≡ BadLength) ⊎ ((result .0 .stop ≡ MoreInput) × (length (drop (result .0 .consumed) input) < longestFrame))
   few = few-left (result .0 .stop) (drop (result .0 .consumed) input) (length out - result .0 .written) (right .stop-right)
 
-  pub wrote : bytesOf result ≡ allWritten (runOn (sharing words tickets) (right .frames) .heard)
+  pub wrote : bytesOf result ≡ allWritten (runOn (sharing words tickets ranks) (right .frames) .heard)
   wrote =
-      let answers = allWritten (runOn (sharing words tickets) (right .frames) .heard) in
+      let answers = allWritten (runOn (sharing words tickets ranks) (right .frames) .heard) in
       ap (take (result .0 .written)) (right .output) ∙ take-at answers (drop (result .0 .written) out) (result .0 .written) (sym (right .written))
 
   pub left-length : length (result .1) ≡ wordsInBook
-  left-length = ap (λ (shared : Shared). length (shared .book)) (right .left) ∙ run-length words tickets (right .frames) whole
+  left-length = ap (λ (shared : Shared). length (shared .book)) (right .left) ∙ run-length words tickets ranks (right .frames) whole accepted
 
 pub room-suffices : RoomSuffices
-room-suffices words tickets input out whole roomy = few words tickets input out whole (rest-none words tickets input out whole roomy)
+room-suffices words tickets ranks input out whole accepted roomy = few words tickets ranks input out whole accepted (rest-none words tickets ranks input out whole accepted roomy)
 
 pub pieces-suffice : PiecesSuffice
-pieces-suffice words tickets piece next out later both whole roomy roomy-both =
-    let first = streamOf words tickets piece out in
-    let one = stream-is-run words tickets piece out whole in
+pieces-suffice words tickets ranks piece next out later both whole accepted roomy roomy-both =
+    let first = streamOf words tickets ranks piece out in
+    let one = stream-is-run words tickets ranks piece out whole accepted in
     let over = drop (first .0 .consumed) piece in
     let rest = over ++ next in
-    let whole-left = left-length words tickets piece out whole in
-    let second = streamOf (first .1) (first .0 .tickets) rest later in
-    let two = stream-is-run (first .1) (first .0 .tickets) rest later whole-left in
-    let all = streamOf words tickets (piece ++ next) both in
-    let three = stream-is-run words tickets (piece ++ next) both whole in
+    let whole-left = left-length words tickets ranks piece out whole accepted in
+    let second = streamOf (first .1) (first .0 .tickets) ranks rest later in
+    let two = stream-is-run (first .1) (first .0 .tickets) ranks rest later whole-left accepted in
+    let all = streamOf words tickets ranks (piece ++ next) both in
+    let three = stream-is-run words tickets ranks (piece ++ next) both whole accepted in
     let frames = one .frames ++ two .frames in
     let rest-two = drop (second .0 .consumed) rest in
     let rest-three = drop (all .0 .consumed) (piece ++ next) in
-    let none-two = rest-none (first .1) (first .0 .tickets) rest later whole-left roomy in
-    let none-three = rest-none words tickets (piece ++ next) both whole roomy-both in
+    let none-two = rest-none (first .1) (first .0 .tickets) ranks rest later whole-left accepted roomy in
+    let none-three = rest-none words tickets ranks (piece ++ next) both whole accepted roomy-both in
     let same : joined frames ++ rest-two ≡ joined (three .frames) ++ rest-three =
     ap (λ (bytes : Bytes). bytes ++ rest-two) (joined-append (one .frames) (two .frames))
     ∙ append-assoc (joined (one .frames)) (joined (two .frames)) rest-two
@@ -187,18 +191,21 @@ pieces-suffice words tickets piece next out later both whole roomy roomy-both =
     ∙ ap (λ (bytes : Bytes). bytes ++ next) (one .parts)
     ∙ sym (three .parts) in
     let (frames-same, rest-same) = one-split frames (three .frames) rest-two rest-three (every-append (one .frames) (two .frames) (one .all-whole) (two .all-whole)) (three .all-whole) none-two none-three same in
-    let shared = sharing words tickets in
+    let shared = sharing words tickets ranks in
+    let same-left : sharing (second .1) (second .0 .tickets) ranks ≡ sharing (all .1) (all .0 .tickets) ranks =
+    two .left
+    ∙ (λ i. runOn (one .left i) (two .frames) .end)
+    ∙ sym (run-end shared (one .frames) (two .frames))
+    ∙ (λ i. runOn shared (frames-same i) .end)
+    ∙ sym (three .left) in
     record {
-      bytes = (λ i. wrote words tickets piece out whole i ++ wrote (first .1) (first .0 .tickets) rest later whole-left i)
+      bytes = (λ i. wrote words tickets ranks piece out whole accepted i ++ wrote (first .1) (first .0 .tickets) ranks rest later whole-left accepted i)
           ∙ (λ i. allWritten (runOn shared (one .frames) .heard) ++ allWritten (runOn (one .left i) (two .frames) .heard))
           ∙ sym (run-written shared (one .frames) (two .frames))
           ∙ (λ i. allWritten (runOn shared (frames-same i) .heard))
-          ∙ sym (wrote words tickets (piece ++ next) both whole);
-      left = two .left
-          ∙ (λ i. runOn (one .left i) (two .frames) .end)
-          ∙ sym (run-end shared (one .frames) (two .frames))
-          ∙ (λ i. runOn shared (frames-same i) .end)
-          ∙ sym (three .left);
+          ∙ sym (wrote words tickets ranks (piece ++ next) both whole accepted);
+      book = ap (λ (shared : Shared). shared .book) same-left;
+      tickets = ap (λ (shared : Shared). shared .tickets) same-left;
       consumed = (λ i. one .consumed i + two .consumed i)
           ∙ sym (ap length (joined-append (one .frames) (two .frames)) ∙ length-append (joined (one .frames)) (joined (two .frames)))
           ∙ (λ i. length (joined (frames-same i)))

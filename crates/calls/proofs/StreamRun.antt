@@ -4,14 +4,17 @@ use native.Mathlib.Nat.{not-suc-le-zero}
 use native.Mathlib.Omega.{arith}
 use native.Mathlib.Decide.{decLt}
 use mathlib.Core.Path.{_≡_, refl, sym, ap, subst, _∙_}
+use mathlib.Core.Bool.{Bool, true, false, not, cond, true≢false}
 use mathlib.Core.Logic.{inl, inr}
 use mathlib.Core.Option.{Option, none, some}
 use mathlib.Core.List.{List, [], _∷_, _++_, append-assoc, append-nil}
 use lib.ListN.{length, take, drop, getD, replicate, length-append, length-take, length-drop, length-replicate, take-append-drop, drop-of-length-le}
 use lib.Seq.{take-append-seam, drop-append-seam, getD-append-add, take-length, drop-length, length-take-le, drop-drop, drop-at, getD-take}
-use lib.Dec.{lit≤}
+use lib.Dec.{eqb, lit≤}
+use borrow.Author.Tests.{eqb-true}
 use Rattle.words.specs.Tests.{Every}
 use Rattle.words.specs.Words.{Words, wordsInBook}
+use Rattle.legs.specs.Positions.{Ranks, isPermutation, Accepted}
 use Rattle.tickets.specs.declared.Tickets.{Tickets}
 use Rattle.tickets.specs.Tickets.{ticketOf}
 use Rattle.tickets.proofs.Stepping.{length-kept}
@@ -22,66 +25,66 @@ use Rattle.frames.specs.Answers.{answerFrame, longestAnswer}
 use Rattle.frames.proofs.Framed.{answer-frames-sound}
 use Rattle.calls.specs.declared.Reply.{Reply}
 use Rattle.calls.specs.declared.Stop.{Stop}
-use Rattle.calls.specs.declared.Stop.the-variants.{MoreInput, OutputFull, BadLength}
+use Rattle.calls.specs.declared.Stop.the-variants.{MoreInput, OutputFull, BadLength, NoBook, NoRanks}
 use Rattle.calls.specs.declared.Next.{Next}
 use Rattle.calls.specs.declared.Next.the-variants.{Frame, End}
 use Rattle.calls.specs.declared.Streamed.{Streamed}
-use Rattle.calls.specs.Call.{refusalOf, requestDone, refusedOr, doneOf, callOf}
+use Rattle.calls.specs.Call.{check, firstOf, refusalOf, requestDone, refusedOr, doneOf, callOf}
 use Rattle.calls.specs.Way.{wayOf}
 use Rattle.calls.specs.Run.{Shared, leftBy, heardOf, runFrom, sharing}
 use Rattle.calls.specs.Survey.{longestField, joined, allWritten, callOn, callsOn, writtenBytes}
-use Rattle.calls.specs.Stream.{nextAt, roomIn, withRoom, streamed, streamFrom, WholeFrame, StopRight, runOn, StreamRight, StreamIsRun}
+use Rattle.calls.specs.Stream.{nextAt, roomIn, withRoom, streamed, streamFrom, WholeFrame, StopRight, stopNumber, streamOf, runOn, StreamRight, StreamIsRun, StreamRefuses}
 use Rattle.calls.proofs.Way.{way-is-call}
 use Rattle.calls.proofs.Sending.{wayOut, call-way}
 use Rattle.calls.proofs.Streaming.{next-short, next-bad, next-torn, next-whole, stops, full, goes, after, stream-whole}
 
 -- A call keeps the book's length.
-request-length : (words : Words) (tickets : Tickets) (request : Request) → length (requestDone words tickets request .words) ≡ length words
+request-length : (words : Words) (tickets : Tickets) (ranks : Ranks) (request : Request) → length (requestDone words tickets ranks request .words) ≡ length words
 unfolding requestDone
-request-length words tickets (Open team edit) = refl
-request-length words tickets (Step team) = length-kept words (ticketOf tickets team) team
-request-length words tickets (Look word) = refl
-request-length words tickets (View team n named) = refl
+request-length words tickets ranks (Open team edit) = refl
+request-length words tickets ranks (Step team) = length-kept words (ticketOf tickets team) team
+request-length words tickets ranks (Look word) = refl
+request-length words tickets ranks (View team n named) = refl
 
-refused-length : (refusal : Option ℕ) (words : Words) (tickets : Tickets) (request : Request) → length (refusedOr refusal words tickets request .words) ≡ length words
-refused-length none words tickets request = request-length words tickets request
-refused-length (some number) words tickets request = refl
+refused-length : (refusal : Option ℕ) (words : Words) (tickets : Tickets) (ranks : Ranks) (request : Request) → length (refusedOr refusal words tickets ranks request .words) ≡ length words
+refused-length none words tickets ranks request = request-length words tickets ranks request
+refused-length (some number) words tickets ranks request = refl
 
 -- The output of a single call has room.
 zeros-long : longestAnswer ≤ length (replicate {A = ℕ} longestAnswer 0)
 zeros-long = omega (arith, length-replicate {A = ℕ} longestAnswer 0)
 
 -- A single call on a frame goes its way: the answer's bytes, the book and the tickets are those of any output that has room.
-module _ (words : Words) (tickets : Tickets) (frame : Bytes) (whole : length words ≡ wordsInBook) where
+module _ (words : Words) (tickets : Tickets) (ranks : Ranks) (frame : Bytes) (whole : length words ≡ wordsInBook) (accepted : Accepted ranks) where
   abbrev pub answerOf : Bytes
-  answerOf = answerFrame (wayOf words tickets frame .answer)
+  answerOf = answerFrame (wayOf words tickets ranks frame .answer)
 
   abbrev pub leftOf : Shared
-  leftOf = sharing (wayOf words tickets frame .words) (wayOf words tickets frame .tickets)
+  leftOf = sharing (wayOf words tickets ranks frame .words) (wayOf words tickets ranks frame .tickets) ranks
 
-  pub way-length : length (wayOf words tickets frame .words) ≡ wordsInBook
+  pub way-length : length (wayOf words tickets ranks frame .words) ≡ wordsInBook
   unfolding doneOf
   way-length =
       let out : Bytes = replicate longestAnswer 0 in
-      ap (λ (result : _). length (result .words)) (sym (way-is-call words tickets frame out whole zeros-long))
-      ∙ refused-length (refusalOf words tickets frame out) words tickets (requestIn frame)
+      ap (λ (result : _). length (result .words)) (sym (way-is-call words tickets ranks frame out whole accepted zeros-long))
+      ∙ refused-length (refusalOf words tickets ranks frame out) words tickets ranks (requestIn frame)
       ∙ whole
 
-  pub call-leaves : leftBy (sharing words tickets) (callOn frame) ≡ leftOf
-  call-leaves = ap (λ (result : Reply × Words × Bytes). sharing (result .1) (result .0 .tickets)) (sym (call-way words tickets frame (replicate longestAnswer 0) whole zeros-long))
+  pub call-leaves : leftBy (sharing words tickets ranks) (callOn frame) ≡ leftOf
+  call-leaves = ap (λ (result : Reply × Words × Bytes). sharing (result .1) (result .0 .tickets) ranks) (sym (call-way words tickets ranks frame (replicate longestAnswer 0) whole accepted zeros-long))
 
-  call-writes : writtenBytes (heardOf (sharing words tickets) (callOn frame)) ≡ answerOf
+  call-writes : writtenBytes (heardOf (sharing words tickets ranks) (callOn frame)) ≡ answerOf
   call-writes =
-      ap (λ (result : Reply × Words × Bytes). take (result .0 .written) (result .2)) (sym (call-way words tickets frame (replicate longestAnswer 0) whole zeros-long))
+      ap (λ (result : Reply × Words × Bytes). take (result .0 .written) (result .2)) (sym (call-way words tickets ranks frame (replicate longestAnswer 0) whole accepted zeros-long))
       ∙ take-append-seam answerOf (drop (length answerOf) (replicate longestAnswer 0))
 
   -- The run of one frame more.
   module _ (frames : List Bytes) where
-    pub run-left : runOn (sharing words tickets) (frame ∷ frames) .end ≡ runOn leftOf frames .end
+    pub run-left : runOn (sharing words tickets ranks) (frame ∷ frames) .end ≡ runOn leftOf frames .end
     unfolding runFrom
     run-left = ap (λ (shared : Shared). runOn shared frames .end) call-leaves
 
-    pub run-wrote : allWritten (runOn (sharing words tickets) (frame ∷ frames) .heard) ≡ answerOf ++ allWritten (runOn leftOf frames .heard)
+    pub run-wrote : allWritten (runOn (sharing words tickets ranks) (frame ∷ frames) .heard) ≡ answerOf ++ allWritten (runOn leftOf frames .heard)
     unfolding runFrom
     run-wrote = λ i. call-writes i ++ allWritten (runOn (call-leaves i) frames .heard)
 
@@ -92,17 +95,17 @@ record RightFrom (shared : Shared) (passed : ℕ) (rest front room : Bytes) (res
   over : Bytes
   parts : joined frames ++ over ≡ rest
   consumed : result .0 .consumed ≡ passed + length (joined frames)
-  left : sharing (result .1) (result .0 .tickets) ≡ runOn shared frames .end
+  left : sharing (result .1) (result .0 .tickets) (shared .ranks) ≡ runOn shared frames .end
   fits : length (allWritten (runOn shared frames .heard)) ≤ length room
   written : result .0 .written ≡ length front + length (allWritten (runOn shared frames .heard))
   output : result .2 ≡ front ++ (allWritten (runOn shared frames .heard) ++ drop (length (allWritten (runOn shared frames .heard))) room)
   stop-right : StopRight (result .0 .stop) over (length room - length (allWritten (runOn shared frames .heard)))
 
 -- It stops at once.
-stopped : (words : Words) (tickets : Tickets) (passed : ℕ) (rest front room : Bytes) (stop : Stop) → StopRight stop rest (length room)
-    → RightFrom (sharing words tickets) passed rest front room (streamed tickets passed (length front) stop, words, front ++ room)
+stopped : (words : Words) (tickets : Tickets) (ranks : Ranks) (passed : ℕ) (rest front room : Bytes) (stop : Stop) → StopRight stop rest (length room)
+    → RightFrom (sharing words tickets ranks) passed rest front room (streamed tickets passed (length front) stop, words, front ++ room)
 unfolding runFrom
-stopped words tickets passed rest front room stop right = record {
+stopped words tickets ranks passed rest front room stop right = record {
   frames = [];
   all-whole = tt;
   over = rest;
@@ -142,7 +145,7 @@ two-answers : (front answer answers room : Bytes)
 two-answers front answer answers room = simp (append-assoc, drop-drop, length-append)
 
 -- It goes on behind one frame more, after one answer more.
-module _ (words : Words) (tickets : Tickets) (passed rest front room : Bytes) (whole : length words ≡ wordsInBook)
+module _ (words : Words) (tickets : Tickets) (ranks : Ranks) (passed rest front room : Bytes) (whole : length words ≡ wordsInBook) (accepted : Accepted ranks)
     (least : 2 + lengthField rest ≤ length rest)
     (small : lengthField rest ≤ longestField)
     (long : longestAnswer ≤ length room) where
@@ -153,7 +156,7 @@ module _ (words : Words) (tickets : Tickets) (passed rest front room : Bytes) (w
   frame = take size rest
 
   abbrev answer : Bytes
-  answer = answerOf words tickets frame whole
+  answer = answerOf words tickets ranks frame whole accepted
 
   abbrev passedNow : Bytes
   passedNow = passed ++ frame
@@ -168,17 +171,17 @@ module _ (words : Words) (tickets : Tickets) (passed rest front room : Bytes) (w
   roomNow = drop (length answer) room
 
   answer-short : length answer ≤ length room
-  answer-short = omega (arith, answer-frames-sound (wayOf words tickets frame .answer) .most)
+  answer-short = omega (arith, answer-frames-sound (wayOf words tickets ranks frame .answer) .most)
 
   frame-whole : WholeFrame frame
   frame-whole =
       let field : lengthField frame ≡ lengthField rest = λ i. getD-take size rest 0 0 (omega arith) i + 256 * getD-take size rest 1 0 (omega arith) i in
       (length-take-le size rest least ∙ ap (λ (field : ℕ). 2 + field) (sym field), omega arith)
 
-  gone-on : (result : Streamed × Words × Bytes) → RightFrom (leftOf words tickets frame whole) (length passedNow) restNow frontNow roomNow result → RightFrom (sharing words tickets) (length passed) rest front room result
+  gone-on : (result : Streamed × Words × Bytes) → RightFrom (leftOf words tickets ranks frame whole accepted) (length passedNow) restNow frontNow roomNow result → RightFrom (sharing words tickets ranks) (length passed) rest front room result
   gone-on result later =
-      let answers = allWritten (runOn (leftOf words tickets frame whole) (later .frames) .heard) in
-      let wrote = run-wrote words tickets frame whole (later .frames) in
+      let answers = allWritten (runOn (leftOf words tickets ranks frame whole accepted) (later .frames) .heard) in
+      let wrote = run-wrote words tickets ranks frame whole accepted (later .frames) in
       let long-now : length roomNow ≡ length room - length answer = length-drop (length answer) room in
       let all : length (answer ++ answers) ≡ length answer + length answers = length-append answer answers in
       let wrote-length = ap length wrote in
@@ -188,7 +191,7 @@ module _ (words : Words) (tickets : Tickets) (passed rest front room : Bytes) (w
         over = later .over;
         parts = append-assoc frame (joined (later .frames)) (later .over) ∙ ap (λ (bytes : Bytes). frame ++ bytes) (later .parts) ∙ take-append-drop size rest;
         consumed = later .consumed ∙ omega (arith, length-append passed frame, length-append frame (joined (later .frames)));
-        left = later .left ∙ sym (run-left words tickets frame whole (later .frames));
+        left = later .left ∙ sym (run-left words tickets ranks frame whole accepted (later .frames));
         fits = omega (arith, wrote-length, all, long-now, answer-short, later .fits);
         written = later .written ∙ omega (arith, length-append front answer, wrote-length, all);
         output = later .output ∙ two-answers front answer answers room ∙ ap (λ (all : Bytes). front ++ (all ++ drop (length all) room)) (sym wrote);
@@ -196,8 +199,8 @@ module _ (words : Words) (tickets : Tickets) (passed rest front room : Bytes) (w
       }
 
   -- The turn itself: one call on what is left of the output.
-  turn : (most : ℕ) → streamFrom (suc most) words tickets (passed ++ rest) (front ++ room) (length passed) (length front)
-      ≡ streamFrom most (wayOf words tickets frame .words) (wayOf words tickets frame .tickets) (passedNow ++ restNow) (frontNow ++ roomNow) (length passedNow) (length frontNow)
+  turn : (most : ℕ) → streamFrom (suc most) words tickets ranks (passed ++ rest) (front ++ room) (length passed) (length front)
+      ≡ streamFrom most (wayOf words tickets ranks frame .words) (wayOf words tickets ranks frame .tickets) ranks (passedNow ++ restNow) (frontNow ++ roomNow) (length passedNow) (length frontNow)
   turn most =
       let input = passed ++ rest in
       let out = front ++ room in
@@ -207,32 +210,32 @@ module _ (words : Words) (tickets : Tickets) (passed rest front room : Bytes) (w
       let bytes : length input - at ≡ length rest = rest-length passed rest in
       let next : nextAt input at ≡ Frame size = sym (next-whole input at (omega arith) (omega arith) (omega arith)) ∙ ap (λ (field : ℕ). Frame (2 + field)) field in
       let frame-is : take size (drop at input) ≡ frame = ap (take size) (drop-append-seam passed rest) in
-      let called : callOf words tickets (take size (drop at input)) (roomIn out w) ≡ wayOut room (wayOf words tickets frame) =
-      (λ i. callOf words tickets (frame-is i) (room-at front room i)) ∙ sym (call-way words tickets frame room whole long) in
+      let called : callOf words tickets ranks (take size (drop at input)) (roomIn out w) ≡ wayOut room (wayOf words tickets ranks frame) =
+      (λ i. callOf words tickets ranks (frame-is i) (room-at front room i)) ∙ sym (call-way words tickets ranks frame room whole accepted long) in
       let input-is : input ≡ passedNow ++ restNow = sym (append-assoc passed frame restNow ∙ ap (λ (bytes : Bytes). passed ++ bytes) (take-append-drop size rest)) in
       let out-is : withRoom out w (answer ++ roomNow) ≡ frontNow ++ roomNow = with-room-at front room (answer ++ roomNow) ∙ sym (append-assoc front answer roomNow) in
       let at-is : at + size ≡ length passedNow = omega (arith, length-append passed frame, length-take-le size rest least) in
       let one-less : suc most - 1 ≡ most = omega arith in
       let w-is : w + length answer ≡ length frontNow = sym (length-append front answer) in
-      goes words tickets input out at w (suc most) size (omega arith) next (omega (arith, rest-length front room))
-      ∙ ap (after words tickets input out at w (suc most - 1) size) called
-      ∙ (λ i. streamFrom (one-less i) (wayOf words tickets frame .words) (wayOf words tickets frame .tickets) (input-is i) (out-is i) (at-is i) (w-is i))
+      goes words tickets ranks input out at w (suc most) size (omega arith) next (omega (arith, rest-length front room))
+      ∙ ap (after words tickets ranks input out at w (suc most - 1) size) called
+      ∙ (λ i. streamFrom (one-less i) (wayOf words tickets ranks frame .words) (wayOf words tickets ranks frame .tickets) ranks (input-is i) (out-is i) (at-is i) (w-is i))
 
 -- From any place on, for as many turns as there are bytes left: each turn stops, or makes one call.
-right-from : (most : ℕ) (words : Words) (tickets : Tickets) (passed rest front room : Bytes) → length words ≡ wordsInBook → length rest ≤ most
-    → RightFrom (sharing words tickets) (length passed) rest front room (streamFrom most words tickets (passed ++ rest) (front ++ room) (length passed) (length front))
+right-from : (most : ℕ) (words : Words) (tickets : Tickets) (ranks : Ranks) (passed rest front room : Bytes) → length words ≡ wordsInBook → Accepted ranks → length rest ≤ most
+    → RightFrom (sharing words tickets ranks) (length passed) rest front room (streamFrom most words tickets ranks (passed ++ rest) (front ++ room) (length passed) (length front))
 unfolding streamFrom
-right-from zero words tickets passed rest front room whole short = stopped words tickets (length passed) rest front room MoreInput (inl (omega arith))
-right-from (suc most) words tickets passed rest front room whole short =
+right-from zero words tickets ranks passed rest front room whole accepted short = stopped words tickets ranks (length passed) rest front room MoreInput (inl (omega arith))
+right-from (suc most) words tickets ranks passed rest front room whole accepted short =
     let input = passed ++ rest in
     let out = front ++ room in
     let at = length passed in
     let w = length front in
     let field = field-at passed rest in
     let bytes : length input - at ≡ length rest = rest-length passed rest in
-    let right : Streamed × Words × Bytes → Type 0 = RightFrom (sharing words tickets) at rest front room in
-    let stops-by : (stop : Stop) → nextAt input at ≡ End stop → StopRight stop rest (length room) → right (streamFrom (suc most) words tickets input out at w) =
-    λ stop next right-stop. subst right (sym (stops words tickets input out at w (suc most) stop (omega arith) next)) (stopped words tickets at rest front room stop right-stop) in
+    let right : Streamed × Words × Bytes → Type 0 = RightFrom (sharing words tickets ranks) at rest front room in
+    let stops-by : (stop : Stop) → nextAt input at ≡ End stop → StopRight stop rest (length room) → right (streamFrom (suc most) words tickets ranks input out at w) =
+    λ stop next right-stop. subst right (sym (stops words tickets ranks input out at w (suc most) stop (omega arith) next)) (stopped words tickets ranks at rest front room stop right-stop) in
     elim (decLt (length rest) 2) [
       | yes few ↦ stops-by MoreInput (sym (next-short input at (omega arith))) (inl few)
       | no more ↦ elim (decLt longestField (lengthField rest)) [
@@ -241,35 +244,35 @@ right-from (suc most) words tickets passed rest front room whole short =
           | yes begun ↦ stops-by MoreInput (sym (next-torn input at (omega arith) (omega arith) (omega arith))) (inr (omega arith, begun))
           | no least ↦ elim (decLt (length room) longestAnswer) [
             | yes short-room ↦ subst right
-                (sym (full words tickets input out at w (suc most) (2 + number16 input at) (omega arith) (sym (next-whole input at (omega arith) (omega arith) (omega arith))) (omega (arith, rest-length front room))))
-                (stopped words tickets at rest front room OutputFull ((omega arith, omega arith, omega arith), short-room))
+                (sym (full words tickets ranks input out at w (suc most) (2 + number16 input at) (omega arith) (sym (next-whole input at (omega arith) (omega arith) (omega arith))) (omega (arith, rest-length front room))))
+                (stopped words tickets ranks at rest front room OutputFull ((omega arith, omega arith, omega arith), short-room))
             | no long ↦
                 let size = 2 + lengthField rest in
                 let frame = take size rest in
                 let least : 2 + lengthField rest ≤ length rest = omega arith in
                 let small : lengthField rest ≤ longestField = omega arith in
                 let long : longestAnswer ≤ length room = omega arith in
-                subst right (sym (turn words tickets passed rest front room whole least small long most))
-                (gone-on words tickets passed rest front room whole least small long _
-                (right-from most (wayOf words tickets frame .words) (wayOf words tickets frame .tickets) (passed ++ frame) (drop size rest)
-                (front ++ answerOf words tickets frame whole) (drop (length (answerOf words tickets frame whole)) room)
-                (way-length words tickets frame whole) (omega (arith, length-drop size rest))))
+                subst right (sym (turn words tickets ranks passed rest front room whole accepted least small long most))
+                (gone-on words tickets ranks passed rest front room whole accepted least small long _
+                (right-from most (wayOf words tickets ranks frame .words) (wayOf words tickets ranks frame .tickets) ranks (passed ++ frame) (drop size rest)
+                (front ++ answerOf words tickets ranks frame whole accepted) (drop (length (answerOf words tickets ranks frame whole accepted)) room)
+                (way-length words tickets ranks frame whole accepted) accepted (omega (arith, length-drop size rest))))
           ]
         ]
       ]
     ]
 
 pub stream-is-run : StreamIsRun
-stream-is-run words tickets input out whole =
-    let right = right-from (length input) words tickets [] input [] out whole (omega arith) in
-    subst (StreamRight (sharing words tickets) input out) (stream-whole words tickets input out whole) (ended right)
+stream-is-run words tickets ranks input out whole accepted =
+    let right = right-from (length input) words tickets ranks [] input [] out whole accepted (omega arith) in
+    subst (StreamRight (sharing words tickets ranks) input out) (stream-whole words tickets ranks input out whole accepted) (ended right)
   where
-    ended : RightFrom (sharing words tickets) 0 input [] out (streamFrom (length input) words tickets input out 0 0)
-        → StreamRight (sharing words tickets) input out (streamFrom (length input) words tickets input out 0 0)
+    ended : RightFrom (sharing words tickets ranks) 0 input [] out (streamFrom (length input) words tickets ranks input out 0 0)
+        → StreamRight (sharing words tickets ranks) input out (streamFrom (length input) words tickets ranks input out 0 0)
     ended right =
-        let result = streamFrom (length input) words tickets input out 0 0 in
+        let result = streamFrom (length input) words tickets ranks input out 0 0 in
         let frames = right .frames in
-        let answers = allWritten (runOn (sharing words tickets) frames .heard) in
+        let answers = allWritten (runOn (sharing words tickets ranks) frames .heard) in
         let consumed : result .0 .consumed ≡ length (joined frames) = omega (arith, right .consumed) in
         let written : result .0 .written ≡ length answers = omega (arith, right .written) in
         let over : right .over ≡ drop (result .0 .consumed) input =
@@ -287,3 +290,36 @@ stream-is-run words tickets input out whole =
           stop-right = subst (StopRight (result .0 .stop) (drop (result .0 .consumed) input)) (omega arith)
               (subst (λ (over : Bytes). StopRight (result .0 .stop) over (length out - length answers)) over (right .stop-right));
         }
+
+-- A stream is refused by its book or its ranks; one that is not stops by no number.
+unnumbered : (stop : Stop) (rest : Bytes) (room : ℕ) → StopRight stop rest room → stopNumber stop ≡ none
+unnumbered MoreInput rest room right = refl
+unnumbered OutputFull rest room right = refl
+unnumbered BadLength rest room right = refl
+unnumbered NoBook rest room right = absurd right
+unnumbered NoRanks rest room right = absurd right
+
+pub stream-refuses : StreamRefuses
+unfolding streamOf
+stream-refuses words tickets ranks input out = by (eqb (length words) wordsInBook) (isPermutation ranks) refl refl
+  where
+    refused : Stop → Streamed × Words × Bytes
+    refused stop = (streamed tickets 0 0 stop, words, out)
+
+    result : Bool → Bool → Streamed × Words × Bytes
+    result whole accepted = cond whole (cond accepted (streamFrom (length input) words tickets ranks input out 0 0) (refused NoRanks)) (refused NoBook)
+
+    refusal : Bool → Bool → Option ℕ
+    refusal whole accepted = firstOf (check 1 (not whole) ∷ check 13 (not accepted) ∷ [])
+
+    by : (whole accepted : Bool) → eqb (length words) wordsInBook ≡ whole → isPermutation ranks ≡ accepted
+        → (stopNumber (result whole accepted .0 .stop) ≡ refusal whole accepted)
+        × ((number : ℕ) → refusal whole accepted ≡ some number → result whole accepted ≡ refused (result whole accepted .0 .stop))
+    by true true whole accepted =
+        let right = stream-is-run words tickets ranks input out (eqb-true _ _ whole) accepted in
+        let same = stream-whole words tickets ranks input out (eqb-true _ _ whole) accepted in
+        let made = streamOf words tickets ranks input out in
+        let none-given = unnumbered (made .0 .stop) (drop (made .0 .consumed) input) (length out - made .0 .written) (right .stop-right) in
+        (ap (λ (turn : Streamed × Words × Bytes). stopNumber (turn .0 .stop)) same ∙ none-given, λ number given. absurd (true≢false cc))
+    by true false whole accepted = (refl, λ number given. refl)
+    by false accepted whole is = (refl, λ number given. refl)

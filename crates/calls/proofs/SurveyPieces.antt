@@ -12,15 +12,16 @@ use lib.ListN.{length, List·getD-append, length-append, length-replicate}
 use lib.Seq.{length-take-le, getD-take}
 use Rattle.words.specs.Tests.{someHolds, Every}
 use Rattle.words.specs.Words.{wordsInBook}
+use Rattle.legs.specs.Positions.{Ranks, Accepted}
 use Rattle.frames.specs.declared.Answer.the-variants.{Refused}
 use Rattle.frames.specs.Numbers.{Bytes}
 use Rattle.frames.specs.Requests.{lengthField}
 use Rattle.frames.specs.Answers.{answerFrame, longestAnswer}
 use Rattle.frames.specs.Fields.{longestFrame}
 use Rattle.calls.specs.declared.Stop.{Stop}
-use Rattle.calls.specs.declared.Stop.the-variants.{MoreInput, OutputFull, BadLength, NoBook}
-use Rattle.calls.specs.Run.{Shared, fresh, runFrom, sharing}
-use Rattle.calls.specs.Survey.{longestField, torn, firstFrame, afterFirstFrame, surveyOf, framesFrom, framesIn, joined, allWritten, restOf, atEnd}
+use Rattle.calls.specs.declared.Stop.the-variants.{MoreInput, OutputFull, BadLength, NoBook, NoRanks}
+use Rattle.calls.specs.Run.{Shared, fresh, underRanks, runFrom, sharing}
+use Rattle.calls.specs.Survey.{longestField, torn, firstFrame, afterFirstFrame, surveyUnder, framesFrom, framesIn, joined, allWritten, restOf, atEnd}
 use Rattle.calls.specs.Stream.{WholeFrame, StartsWhole, StopRight, runOn, Roomy}
 use Rattle.calls.specs.Pieces.{goesOn, Between, beginning, inputOf, turnOf, afterTurn, piecesFrom, RoomEachTurn, PiecesAreSurvey, PiecesHaveRoom}
 use Rattle.calls.proofs.Refusing.{tests-fail}
@@ -94,34 +95,36 @@ stop-answers OutputFull shared over next room ends right = absurd (true≢false 
 stop-answers BadLength shared over next room ends right =
     subst (AnsweredBy shared (over ++ next)) (some-left over next (right .0)) (only-rest shared (over ++ next) (bad-stays over next (right .0) (right .1)))
 stop-answers NoBook shared over next room ends right = absurd right
+stop-answers NoRanks shared over next room ends right = absurd right
 
 -- Turn after turn.
-in-pieces : (pieces : List Bytes) (before : Between) → length (before .book) ≡ wordsInBook → (StartsWhole (before .kept) → ⊥) → RoomEachTurn before pieces
-    → AnsweredBy (sharing (before .book) (before .tickets)) (before .kept ++ joined pieces) (piecesFrom before pieces)
+in-pieces : (pieces : List Bytes) (before : Between) → length (before .book) ≡ wordsInBook → Accepted (before .ranks) → (StartsWhole (before .kept) → ⊥) → RoomEachTurn before pieces
+    → AnsweredBy (sharing (before .book) (before .tickets) (before .ranks)) (before .kept ++ joined pieces) (piecesFrom before pieces)
 unfolding piecesFrom RoomEachTurn
-in-pieces [] before whole none-starts roomy =
-    subst (λ (input : Bytes). AnsweredBy (sharing (before .book) (before .tickets)) input (atEnd (before .kept))) (sym (append-nil (before .kept))) (only-rest (sharing (before .book) (before .tickets)) (before .kept) none-starts)
-in-pieces (piece ∷ later) before whole none-starts roomy =
+in-pieces [] before whole accepted none-starts roomy =
+    subst (λ (input : Bytes). AnsweredBy (sharing (before .book) (before .tickets) (before .ranks)) input (atEnd (before .kept))) (sym (append-nil (before .kept))) (only-rest (sharing (before .book) (before .tickets) (before .ranks)) (before .kept) none-starts)
+in-pieces (piece ∷ later) before whole accepted none-starts roomy =
     let words = before .book in
     let tickets = before .tickets in
+    let ranks = before .ranks in
     let input = inputOf before piece in
     let turn = turnOf before piece in
     let after = afterTurn before piece in
-    let right = stream-is-run words tickets input (before .out) whole in
+    let right = stream-is-run words tickets ranks input (before .out) whole accepted in
     let over = after .kept in
-    let end = runOn (sharing (before .book) (before .tickets)) (right .frames) .end in
+    let end = runOn (sharing (before .book) (before .tickets) (before .ranks)) (right .frames) .end in
     let parts : joined (right .frames) ++ (over ++ joined later) ≡ before .kept ++ (piece ++ joined later) =
     sym (append-assoc (joined (right .frames)) over (joined later))
     ∙ ap (λ (bytes : Bytes). bytes ++ joined later) (right .parts)
     ∙ append-assoc (before .kept) piece (joined later) in
     let goes : goesOn (turn .0 .stop) ≡ true → AnsweredBy end (over ++ joined later) (piecesFrom after later) =
     λ on. subst (λ (shared : Shared). AnsweredBy shared (over ++ joined later) (piecesFrom after later)) (right .left)
-    (in-pieces later after (left-length words tickets input (before .out) whole) (rest-none words tickets input (before .out) whole (roomy .0)) (roomy .1 on)) in
+    (in-pieces later after (left-length words tickets ranks input (before .out) whole accepted) accepted (rest-none words tickets ranks input (before .out) whole accepted (roomy .0)) (roomy .1 on)) in
     let stops : goesOn (turn .0 .stop) ≡ false → AnsweredBy end (over ++ joined later) (answerFrame (Refused 3)) =
     λ ends. stop-answers (turn .0 .stop) end over (joined later) _ ends (right .stop-right) in
-    subst (λ (bytes : Bytes). AnsweredBy (sharing (before .book) (before .tickets)) (before .kept ++ (piece ++ joined later)) (bytes ++ cond (goesOn (turn .0 .stop)) (piecesFrom after later) (answerFrame (Refused 3))))
-    (sym (wrote words tickets input (before .out) whole))
-    (frames-first (sharing (before .book) (before .tickets)) (right .frames) (over ++ joined later) _ _ (right .all-whole) parts (either (goesOn (turn .0 .stop)) end (over ++ joined later) (piecesFrom after later) goes stops))
+    subst (λ (bytes : Bytes). AnsweredBy (sharing (before .book) (before .tickets) (before .ranks)) (before .kept ++ (piece ++ joined later)) (bytes ++ cond (goesOn (turn .0 .stop)) (piecesFrom after later) (answerFrame (Refused 3))))
+    (sym (wrote words tickets ranks input (before .out) whole accepted))
+    (frames-first (sharing (before .book) (before .tickets) (before .ranks)) (right .frames) (over ++ joined later) _ _ (right .all-whole) parts (either (goesOn (turn .0 .stop)) end (over ++ joined later) (piecesFrom after later) goes stops))
   where
     either : (on : Bool) (shared : Shared) (input bytes : Bytes) → (on ≡ true → AnsweredBy shared input bytes) → (on ≡ false → AnsweredBy shared input (answerFrame (Refused 3)))
         → AnsweredBy shared input (cond on bytes (answerFrame (Refused 3)))
@@ -155,9 +158,9 @@ frames-whole (suc most) (byte ∷ bytes) =
     whole-turn (torn input) (firstFrame input) (framesFrom most (afterFirstFrame input)) (first-whole input) (frames-whole most (afterFirstFrame input))
 
 -- So survey answers its input.
-survey-answers : (input : Bytes) → AnsweredBy (fresh []) input (surveyOf input)
-survey-answers input =
-    let right = survey-is-run input in
+survey-answers : (ranks : Ranks) → Accepted ranks → (input : Bytes) → AnsweredBy (underRanks (fresh []) ranks) input (surveyUnder ranks input)
+survey-answers ranks accepted input =
+    let right = survey-is-run ranks accepted input in
     record {
       frames = framesIn input;
       rest = restOf input;
@@ -168,27 +171,28 @@ survey-answers input =
     }
 
 pub pieces-are-survey : PiecesAreSurvey
-pieces-are-survey out pieces roomy =
-    one-answer (fresh []) (joined pieces) (piecesFrom (beginning out) pieces) (surveyOf (joined pieces))
-    (in-pieces pieces (beginning out) (length-replicate {A = ℕ} wordsInBook 0) (λ starts. omega (arith, starts .0)) roomy)
-    (survey-answers (joined pieces))
+pieces-are-survey ranks accepted out pieces roomy =
+    one-answer (underRanks (fresh []) ranks) (joined pieces) (piecesFrom (beginning ranks out) pieces) (surveyUnder ranks (joined pieces))
+    (in-pieces pieces (beginning ranks out) (length-replicate {A = ℕ} wordsInBook 0) accepted (λ starts. omega (arith, starts .0)) roomy)
+    (survey-answers ranks accepted (joined pieces))
 
 -- Where it goes on less than a frame of the longest kind is kept, and the output stays as long as it was.
 kept-short : (stop : Stop) (left : ℕ) → (stop ≡ BadLength) ⊎ ((stop ≡ MoreInput) × (left < longestFrame)) → goesOn stop ≡ true → left < longestFrame
 kept-short stop left (inl bad) on = absurd (false≢true (sym (ap goesOn bad) ∙ on))
 kept-short stop left (inr more) on = more .1
 
-room-each : (pieces : List Bytes) (before : Between) (room : ℕ) → length (before .book) ≡ wordsInBook → length (before .kept) < longestFrame → length (before .out) ≡ room
+room-each : (pieces : List Bytes) (before : Between) (room : ℕ) → length (before .book) ≡ wordsInBook → Accepted (before .ranks) → length (before .kept) < longestFrame → length (before .out) ≡ room
     → Every (λ piece. longestAnswer * (longestFrame + length piece) ≤ 2 * room) pieces → RoomEachTurn before pieces
 unfolding RoomEachTurn
-room-each [] before room whole short long enough = tt
-room-each (piece ∷ later) before room whole short long enough =
+room-each [] before room whole accepted short long enough = tt
+room-each (piece ∷ later) before room whole accepted short long enough =
     let words = before .book in
     let tickets = before .tickets in
+    let ranks = before .ranks in
     let input = inputOf before piece in
     let roomy : Roomy input (before .out) = omega (arith, enough .0, short, long, length-append (before .kept) piece) in
-    let stopped = room-suffices words tickets input (before .out) whole roomy in
-    (roomy, λ on. room-each later (afterTurn before piece) room (left-length words tickets input (before .out) whole) (kept-short _ _ stopped on) (stream-is-run words tickets input (before .out) whole .same-length ∙ long) (enough .1))
+    let stopped = room-suffices words tickets ranks input (before .out) whole accepted roomy in
+    (roomy, λ on. room-each later (afterTurn before piece) room (left-length words tickets ranks input (before .out) whole accepted) accepted (kept-short _ _ stopped on) (stream-is-run words tickets ranks input (before .out) whole accepted .same-length ∙ long) (enough .1))
 
 pub pieces-have-room : PiecesHaveRoom
-pieces-have-room out pieces enough = room-each pieces (beginning out) (length out) (length-replicate {A = ℕ} wordsInBook 0) (omega arith) refl enough
+pieces-have-room ranks accepted out pieces enough = room-each pieces (beginning ranks out) (length out) (length-replicate {A = ℕ} wordsInBook 0) accepted (omega arith) refl enough

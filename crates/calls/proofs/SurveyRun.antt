@@ -11,8 +11,8 @@ use Rattle.frames.specs.declared.Answer.the-variants.{Refused}
 use Rattle.frames.specs.Numbers.{Bytes}
 use Rattle.frames.specs.Requests.{lengthField}
 use Rattle.frames.specs.Answers.{answerFrame}
-use Rattle.calls.specs.Run.{Shared, fresh, heardOf, leftBy, runFrom}
-use Rattle.calls.specs.Survey.{torn, firstFrame, afterFirstFrame, callOn, writtenBytes, surveyFrom, surveyOf, framesFrom, framesIn, joined, allWritten, callsOn, restOf, atEnd, SurveyIsRun}
+use Rattle.calls.specs.Run.{Shared, fresh, underRanks, heardOf, leftBy, runFrom}
+use Rattle.calls.specs.Survey.{torn, firstFrame, afterFirstFrame, callOn, writtenBytes, surveyFrom, surveyUnder, framesFrom, framesIn, joined, allWritten, callsOn, restOf, atEnd, SurveyIsRun}
 
 -- What is left behind the whole frames of an input of at most so many bytes.
 unfoldable restFrom : ℕ → Bytes → Bytes
@@ -89,10 +89,13 @@ rest-is input =
     ∙ drop-append-seam (joined (framesIn input)) (restFrom (length input) input)
 
 pub survey-is-run : SurveyIsRun
-unfolding surveyOf
-survey-is-run input = record {
-  parts = ap (λ (rest : Bytes). joined (framesIn input) ++ rest) (rest-is input) ∙ parts-from (length input) input;
-  rest-torn = λ some-left. subst (λ (rest : Bytes). torn rest ≡ true) (sym (rest-is input))
-      (torn-from (length input) input (omega arith) (λ none-left. some-left (rest-is input ∙ none-left)));
-  answers = answers-from (length input) (fresh []) input (omega arith) ∙ ap (λ (rest : Bytes). allWritten (runFrom (fresh []) (callsOn (framesIn input)) .heard) ++ atEnd rest) (sym (rest-is input));
-}
+unfolding surveyUnder
+survey-is-run ranks accepted input =
+    let start = underRanks (fresh []) ranks in
+    record {
+      parts = ap (λ (rest : Bytes). joined (framesIn input) ++ rest) (rest-is input) ∙ parts-from (length input) input;
+      rest-torn = λ some-left. subst (λ (rest : Bytes). torn rest ≡ true) (sym (rest-is input))
+          (torn-from (length input) input (omega arith) (λ none-left. some-left (rest-is input ∙ none-left)));
+      answers = answers-from (length input) start input (omega arith)
+          ∙ ap (λ (rest : Bytes). allWritten (runFrom start (callsOn (framesIn input)) .heard) ++ atEnd rest) (sym (rest-is input));
+    }

@@ -2,7 +2,7 @@
 use Prim.Native.Nat.{ℕ, _+_, _≤_, _<_}
 use mathlib.Core.Path.{_≡_, refl, subst, sym, _∙_, ap}
 use mathlib.Core.Bool.{Bool, true, false, cond, false≢true}
-use mathlib.Core.List.{List, map}
+use mathlib.Core.List.{List, [], map}
 use mathlib.Core.Option.{Option, none, some}
 use native.Mathlib.Decide.{ℕ-discrete, decLt}
 use native.Mathlib.Omega.{arith}
@@ -28,7 +28,7 @@ use Rattle.edits.specs.Ordering.{listedCount}
 use Rattle.edits.specs.Views.{viewTargets, openedView}
 use Rattle.edits.proofs.Order.{length-permuted, ordered-permuted}
 use Rattle.edits.proofs.Stored.{targets-counted}
-use Rattle.legs.specs.Positions.{positionOf}
+use Rattle.legs.specs.Positions.{Ranks, positionBy}
 use Rattle.frames.specs.Request.{Request, Open, Step, Look, View}
 use Rattle.frames.specs.Requests.{requestIn}
 use Rattle.calls.specs.Call.{refusalOf, requestDone, refusedOr, doneOf, callOf}
@@ -114,7 +114,7 @@ listed-most (Edit.Strike e) = omega arith
 listed-most (Edit.Move e) = omega arith
 
 pub count-most : (edit : Edit) → targetCount edit ≤ mostTargets
-count-most edit = let (counted, stored) = targets-counted edit in omega (arith, listed-most edit)
+count-most edit = let (counted, stored) = targets-counted [] edit in omega (arith, listed-most edit)
 
 padded-length : (numbers : List ℕ) → length numbers ≤ mostTargets → length (padded numbers) ≡ mostTargets
 padded-length numbers most = simp (length-append, length-replicate) (omega arith)
@@ -122,27 +122,27 @@ padded-length numbers most = simp (length-append, length-replicate) (omega arith
 field-length : (field : Target → ℕ) (targets : List Target) → length targets ≤ mostTargets → length (padded (map field targets)) ≡ mostTargets
 field-length field targets most = padded-length (map field targets) (omega (arith, length-map targets field))
 
-opened-fits : (edit : Edit) → SlotFits (openedTicket edit)
+opened-fits : (ranks : Ranks) (edit : Edit) → SlotFits (openedTicket ranks edit)
 unfolding openedTicket
-opened-fits edit =
-    let (counted, stored) = targets-counted edit in
-    let most : length (storedTargets edit) ≤ mostTargets = omega (arith, listed-most edit) in
+opened-fits ranks edit =
+    let (counted, stored) = targets-counted ranks edit in
+    let most : length (storedTargets ranks edit) ≤ mostTargets = omega (arith, listed-most edit) in
     record {
-      words = field-length (λ t. t .word) (storedTargets edit) most;
-      quoted = field-length (λ t. t .quoted) (storedTargets edit) most;
-      new = field-length (λ t. t .new) (storedTargets edit) most;
+      words = field-length (λ t. t .word) (storedTargets ranks edit) most;
+      quoted = field-length (λ t. t .quoted) (storedTargets ranks edit) most;
+      new = field-length (λ t. t .new) (storedTargets ranks edit) most;
       tries = omega arith;
     }
 
 -- So does a view of at most six words.
-opened-view-fits : (words : List ℕ) → length words ≤ mostTargets → SlotFits (openedView words)
+opened-view-fits : (ranks : Ranks) (words : List ℕ) → length words ≤ mostTargets → SlotFits (openedView ranks words)
 unfolding openedView
-opened-view-fits words most =
+opened-view-fits ranks words most =
     let listed : List Target = map (λ word. target word 0 0) words in
-    let most-targets : length (viewTargets words) ≤ mostTargets = omega (arith, length-permuted (ordered-permuted positionOf listed), length-map words (λ word. target word 0 0)) in
+    let most-targets : length (viewTargets ranks words) ≤ mostTargets = omega (arith, length-permuted (ordered-permuted (positionBy ranks) listed), length-map words (λ word. target word 0 0)) in
     record {
-      words = field-length (λ t. t .word) (viewTargets words) most-targets;
-      quoted = field-length (λ t. t .quoted) (viewTargets words) most-targets;
+      words = field-length (λ t. t .word) (viewTargets ranks words) most-targets;
+      quoted = field-length (λ t. t .quoted) (viewTargets ranks words) most-targets;
       new = padded-length words most;
       tries = omega arith;
     }
@@ -167,19 +167,19 @@ with-fits tickets team ticket fits mine = record {
   ];
 }
 
-request-stays : (words : Words) (tickets : Tickets) (request : Request) → TableFits tickets → Sized request → TableFits (requestDone words tickets request .tickets)
+request-stays : (words : Words) (tickets : Tickets) (ranks : Ranks) (request : Request) → TableFits tickets → Sized request → TableFits (requestDone words tickets ranks request .tickets)
 unfolding requestDone
-request-stays words tickets (Open team edit) fits sized = with-fits tickets team (openedTicket edit) fits (λ inside. opened-fits edit)
-request-stays words tickets (Step team) fits sized =
+request-stays words tickets ranks (Open team edit) fits sized = with-fits tickets team (openedTicket ranks edit) fits (λ inside. opened-fits ranks edit)
+request-stays words tickets ranks (Step team) fits sized =
     with-fits tickets team (stepOf words (ticketOf tickets team) team .0 .ticket) fits
     (λ inside. step-fits (ticketOf tickets team) (fits .slots team inside) words team)
-request-stays words tickets (Look word) fits sized = fits
-request-stays words tickets (View team n named) fits sized = with-fits tickets team (openedView named) fits (λ inside. opened-view-fits named (sized .1))
+request-stays words tickets ranks (Look word) fits sized = fits
+request-stays words tickets ranks (View team n named) fits sized = with-fits tickets team (openedView ranks named) fits (λ inside. opened-view-fits ranks named (sized .1))
 
-done-stays : (refusal : Option ℕ) (words : Words) (tickets : Tickets) (request : Request) → TableFits tickets → (refusal ≡ none → Sized request) → TableFits (refusedOr refusal words tickets request .tickets)
-done-stays none words tickets request fits sized = request-stays words tickets request fits (sized refl)
-done-stays (some number) words tickets request fits sized = fits
+done-stays : (refusal : Option ℕ) (words : Words) (tickets : Tickets) (ranks : Ranks) (request : Request) → TableFits tickets → (refusal ≡ none → Sized request) → TableFits (refusedOr refusal words tickets ranks request .tickets)
+done-stays none words tickets ranks request fits sized = request-stays words tickets ranks request fits (sized refl)
+done-stays (some number) words tickets ranks request fits sized = fits
 
 pub tables-stay : TablesStay
 unfolding callOf doneOf
-tables-stay words tickets frame out fits = done-stays (refusalOf words tickets frame out) words tickets (requestIn frame) fits (λ none-given. request-sized (passed words tickets frame out none-given))
+tables-stay words tickets ranks frame out fits = done-stays (refusalOf words tickets ranks frame out) words tickets ranks (requestIn frame) fits (λ none-given. request-sized (passed words tickets ranks frame out none-given))

@@ -13,6 +13,7 @@ use lib.ListN.{length, getD, length-map, List·getD-map}
 use borrow.Author.Tests.{eqb-true, eq-eqb, not-true}
 use Rattle.words.specs.Tests.{allHold, someHolds, occurs}
 use Rattle.words.proofs.Tests.{split, join, is-false}
+use Rattle.legs.specs.Positions.{Ranks}
 use Rattle.tickets.specs.declared.Phase.{Phase}
 use Rattle.tickets.specs.declared.Phase.the-variants.{NoTicket, Claiming, Putting, GivingBack, Viewing, Viewed}
 use Rattle.tickets.specs.declared.Ticket.{Ticket}
@@ -113,7 +114,7 @@ HeardIn edit Viewed ticket noted = ⊥
 -- What is known of an edit's ticket.
 pub record KnownEdit (edit : Edit) (ticket : Ticket) (noted : Noted) : Type 0 where
   pub fine : Fine edit
-  pub targets : targetsIn ticket ≡ storedTargets edit
+  pub targets : targetsIn ticket ≡ storedTargets (noted .ranks) edit
   pub phase : HeardIn edit (ticket .phase) ticket noted
 
 -- A view that gives back has its place, and the values noted are the plain book's words there.
@@ -144,7 +145,7 @@ KnownAs (aView words) ticket noted = KnownView words ticket noted
 
 -- What is known of a ticket by what was heard of it, of an edit's and of a view, in every phase.
 pub record Known (ticket : Ticket) (noted : Noted) : Type 0 where
-  pub words : wordsIn ticket ≡ wordsAsked (noted .asked)
+  pub words : wordsIn ticket ≡ wordsAsked (noted .ranks) (noted .asked)
   pub spent : ticket .tries ≡ min (noted .steps) mostTries
   pub claimed : UpTo (ticket .claimed) (noted .claimed)
   pub released : UpTo (ticket .done) (noted .released)
@@ -154,6 +155,11 @@ pub record Known (ticket : Ticket) (noted : Noted) : Type 0 where
 abbrev pub Tied : Ticket → Option Noted → Type 0
 Tied ticket none = ticket .phase ≡ NoTicket
 Tied ticket (some noted) = Known ticket noted
+
+-- A ticket that is noted was opened under these ranks.
+abbrev pub Under : Ranks → Option Noted → Type 0
+Under ranks none = Unit {0}
+Under ranks (some noted) = noted .ranks ≡ ranks
 
 -- A ticket of which something is known stands.
 edit-stands : (edit : Edit) (phase : Phase) (ticket : Ticket) (noted : Noted) → HeardIn edit phase ticket noted → hasTicket phase ≡ true
@@ -178,7 +184,7 @@ stands-as (aView words) ticket noted known = view-stands (ticket .phase) ticket 
 
 -- It has as many targets as were asked for.
 count-as : (asked : Asked) (ticket : Ticket) (noted : Noted) → KnownAs asked ticket noted → ticket .n ≡ countAsked asked
-count-as (anEdit edit) ticket noted known = sym (length-targets ticket) ∙ ap length (known .targets) ∙ targets-counted edit .1
+count-as (anEdit edit) ticket noted known = sym (length-targets ticket) ∙ ap length (known .targets) ∙ targets-counted (noted .ranks) edit .1
 count-as (aView words) ticket noted known = sym (length-targets ticket) ∙ sym (length-map (targetsIn ticket) (λ one. one .new)) ∙ ap length (known .names)
 
 -- No more is claimed than there are targets.
@@ -212,11 +218,11 @@ module _ (noted : Noted) (word : ℕ) where
 
 -- The target after those claimed.
 pub known-next : {edit : Edit} {ticket : Ticket} {noted : Noted} → Known ticket noted → KnownEdit edit ticket noted → ticket .claimed < ticket .n
-    → targetAt ticket (ticket .claimed) ≡ targetIn (storedTargets edit) (length (noted .claimed))
+    → targetAt ticket (ticket .claimed) ≡ targetIn (storedTargets (noted .ranks) edit) (length (noted .claimed))
 known-next {edit} {ticket} {noted} known of-edit below =
     sym (target-listed ticket (ticket .claimed) below)
     ∙ ap (λ targets. targetIn targets (ticket .claimed)) (of-edit .targets)
-    ∙ ap (targetIn (storedTargets edit)) (sym (known .claimed .many))
+    ∙ ap (targetIn (storedTargets (noted .ranks) edit)) (sym (known .claimed .many))
 
 module _ {ticket : Ticket} {noted : Noted} (known : Known ticket noted) where
   pub known-stands : hasTicket (ticket .phase) ≡ true
@@ -226,10 +232,10 @@ module _ {ticket : Ticket} {noted : Noted} (known : Known ticket noted) where
   known-count = count-as (noted .asked) ticket noted (known .rest)
 
   -- Its words are those asked for.
-  known-many : ticket .n ≡ length (wordsAsked (noted .asked))
+  known-many : ticket .n ≡ length (wordsAsked (noted .ranks) (noted .asked))
   known-many = sym (length-targets ticket) ∙ sym (length-map (targetsIn ticket) (λ one. one .word)) ∙ ap length (known .words)
 
-  known-word : (k : ℕ) → k < ticket .n → targetAt ticket k .word ≡ getD (wordsAsked (noted .asked)) k 0
+  known-word : (k : ℕ) → k < ticket .n → targetAt ticket k .word ≡ getD (wordsAsked (noted .ranks) (noted .asked)) k 0
   known-word k below =
       sym (ap (λ one. one .word) (target-listed ticket k below))
       ∙ sym (List·getD-map (λ one. one .word) (targetsIn ticket) k (target 0 0 0))
@@ -240,7 +246,7 @@ module _ {ticket : Ticket} {noted : Noted} (known : Known ticket noted) where
     holds-heard value holds =
         let most = claimed-most size ticket fit known-stands in
         let below : holds .at < ticket .n = omega (arith, holds .claimed) in
-        among-of noted word (wordsAsked (noted .asked)) 1 (holds .at) (omega (arith, known-many))
+        among-of noted word (wordsAsked (noted .ranks) (noted .asked)) 1 (holds .at) (omega (arith, known-many))
         (sym (known-word (holds .at) below) ∙ holds .its-word)
         (join (occurs (1 + holds .at) (noted .claimed) ∷ not (occurs (1 + holds .at) (noted .released)) ∷ []) (
           known .claimed .all (1 + holds .at) (omega arith) (omega (arith, holds .claimed)),
@@ -249,7 +255,7 @@ module _ {ticket : Ticket} {noted : Noted} (known : Known ticket noted) where
 
     pub heard-holds : holdsWord (some noted) word ≡ true → (value : ℕ) × Holds ticket word value
     heard-holds held =
-        let (at, below, is, holds) = of-among noted word (wordsAsked (noted .asked)) 1 held in
+        let (at, below, is, holds) = of-among noted word (wordsAsked (noted .ranks) (noted .asked)) 1 held in
         let (taken, (kept, u)) = split (occurs (1 + at) (noted .claimed) ∷ not (occurs (1 + at) (noted .released)) ∷ []) holds in
         let inside : at < ticket .n = omega (arith, known-many) in (
           plainValue (ticket .phase) (targetAt ticket at),

@@ -11,6 +11,7 @@ use lib.ListN.{length}
 use borrow.Author.Tests.{eq-eqb, ne-eqb}
 use Rattle.words.specs.Tests.{Every}
 use Rattle.words.specs.Words.{Words, wordsInBook, shelfCount, wordsInStore, teamCount, readOf}
+use Rattle.legs.specs.Positions.{Ranks, Accepted}
 use Rattle.tickets.specs.declared.Phase.{Phase}
 use Rattle.tickets.specs.declared.Ticket.{Ticket}
 use Rattle.tickets.specs.declared.Stepped.{Stepped}
@@ -33,7 +34,7 @@ use Rattle.calls.specs.Linearizable.{play, EndedRight, TriesRight}
 use Rattle.calls.specs.Demand1.{TableFits}
 use Rattle.calls.proofs.Orders.{every-last, isFilling}
 use Rattle.calls.proofs.Ordered.{played, Ordered, PlaceKept, GoesOn, order-stays, place-stays, order-grows}
-use Rattle.calls.proofs.Tied.{UpTo, KnownAs, Known, Tied, known-stands, known-count}
+use Rattle.calls.proofs.Tied.{UpTo, KnownAs, Known, Tied, Under, known-stands, known-count}
 
 -- The place of a team's ticket, if it is a view that has one.
 abbrev pub placeIn : Option Noted → Option (List Event)
@@ -57,12 +58,16 @@ pub record Shelved (shared : Shared) (order : List Event) : Type 0 where
   pub tied : (shelf : ℕ) → ShelfTied (shared .store) (isFilled (shared .filled) shelf) shelf (played order .shelves shelf)
   pub heard : (shelf : ℕ) → isFilled (shared .filled) shelf ≡ wasFilled shelf order
 
--- At all times: the book is whole; words, tickets and the plain book of the order agree; what was heard is tied to the tickets; the order is
--- right; the places reserved in it are those of views; and the tickets that ended are as they should be.
+-- At all times: the book is whole; words, tickets and the plain book of the order agree; what was heard is tied to the tickets; the ranks in force are
+-- accepted and known, and every ticket noted was opened under them; the order is right; the places reserved in it are those of views; and the tickets that
+-- ended are as they should be.
 pub record Good (shared : Shared) (n : Notes) : Type 0 where
   pub whole : length (shared .book) ≡ wordsInBook
   pub agree : Invariant (shared .book) (ticketOf (shared .tickets)) (wordOf (play (n .order)))
   pub tied : (team : ℕ) → Tied (ticketOf (shared .tickets) team) (n .tickets team)
+  pub ranked : Accepted (shared .ranks)
+  pub heard-ranks : shared .ranks ≡ n .ranks
+  pub under : (team : ℕ) → Under (n .ranks) (n .tickets team)
   pub ordered : Ordered (n .order)
   pub shelved : Shelved shared (n .order)
   pub places : (team : ℕ) → PlaceKept team (n .order) (placeIn (n .tickets team))
@@ -70,10 +75,11 @@ pub record Good (shared : Shared) (n : Notes) : Type 0 where
   pub tries : Every TriesRight (n .ended)
   pub in-turn : n .outOfTurn ≡ 0
 
--- What was heard of a ticket that was opened for this.
-abbrev pub asking : Asked → Noted → Noted
-asking asked t = record {
+-- What was heard of a ticket that was opened for this, under these ranks.
+abbrev pub asking : Asked → Ranks → Noted → Noted
+asking asked ranks t = record {
   asked = asked;
+  ranks = ranks;
   claimed = t .claimed;
   released = t .released;
   steps = t .steps;
@@ -95,6 +101,12 @@ module _ (shared : Shared) (n : Notes) (table : TableFits (shared .tickets)) (go
     | no differs ↦ rw (ne-eqb other team differs) (good .tied other)
   ]
 
+  still-under : (note : Option Noted) → Under (n .ranks) note → (other : ℕ) → Under (n .ranks) (retold (n .tickets) team note other)
+  still-under note mine other = elim (ℕ-discrete other team) [
+    | yes same ↦ rw (eq-eqb other team same) mine
+    | no differs ↦ rw (ne-eqb other team differs) (good .under other)
+  ]
+
   replaced : (order : List Event) (note : Option Noted) → GoesOn team (n .order) order (placeIn note) → (other : ℕ) → PlaceKept other order (placeIn (retold (n .tickets) team note other))
   replaced order note goes other = elim (ℕ-discrete other team) [
     | yes same ↦ rw (eq-eqb other team same) (subst (λ team. PlaceKept team order (placeIn note)) (sym same) (goes .own))
@@ -108,12 +120,15 @@ module _ (shared : Shared) (n : Notes) (table : TableFits (shared .tickets)) (go
   pub goes-on : (book : Words) (ticket : Ticket) (order : List Event) (note : Option Noted) (ended : List Ended)
       → length book ≡ wordsInBook
       → Invariant book (withSlot (ticketOf (shared .tickets)) team ticket) (wordOf (play order))
-      → Tied ticket note → GoesOn team (n .order) order (placeIn note) → Every EndedRight ended → Every TriesRight ended
-      → Good (onward shared book (withTicket (shared .tickets) team ticket)) (notes order (retold (n .tickets) team note) ended (n .outOfTurn))
-  goes-on book ticket order note ended whole agree mine goes ends tries = record {
+      → Tied ticket note → Under (n .ranks) note → GoesOn team (n .order) order (placeIn note) → Every EndedRight ended → Every TriesRight ended
+      → Good (onward shared book (withTicket (shared .tickets) team ticket)) (notes order (retold (n .tickets) team note) ended (n .ranks) (n .outOfTurn))
+  goes-on book ticket order note ended whole agree mine its-ranks goes ends tries = record {
     whole = whole;
     agree = subst (λ tickets. Invariant book tickets (wordOf (play order))) (sym (slots ticket)) agree;
     tied = λ other. subst (λ tickets. Tied (tickets other) (retold (n .tickets) team note other)) (sym (slots ticket)) (retied ticket note mine other);
+    ranked = good .ranked;
+    heard-ranks = good .heard-ranks;
+    under = still-under note its-ranks;
     ordered = goes .ordered;
     shelved = record {
       flags = good .shelved .flags;
@@ -174,6 +189,10 @@ module _ {noted : Noted} (turn : Turn noted) where
   abbrev now : Noted
   now = withStep noted
 
+  -- It was opened under the ranks in force.
+  my-ranks : noted .ranks ≡ n .ranks
+  my-ranks = subst (Under (n .ranks)) (turn .is) (good .under team)
+
   -- Where the plain book stays, so does what the law of the step gives.
   pub still : {after : Ticket} {answer : StepAnswer} {book : Plain} → book ≡ play (n .order) → Leaving plain after answer → Leaving (wordOf book) after answer
   still {after} {answer} same left = subst (λ book. Leaving (wordOf book) after answer) (sym same) left
@@ -181,14 +200,14 @@ module _ {noted : Noted} (turn : Turn noted) where
   -- What is known of the book, the ticket, the order and what was heard is known after the step.
   pub left-as : {after : Ticket} {answer : StepAnswer} (order : List Event) (note : Option Noted) (ended : List Ended)
       → Leaving (wordOf (play order)) after answer
-      → hearStepAnswer n team now answer ≡ notes order (retold (n .tickets) team note) ended (n .outOfTurn)
-      → Tied after note → GoesOn team (n .order) order (placeIn note) → Every EndedRight ended → Every TriesRight ended
+      → hearStepAnswer n team now answer ≡ notes order (retold (n .tickets) team note) ended (n .ranks) (n .outOfTurn)
+      → Tied after note → Under (noted .ranks) note → GoesOn team (n .order) order (placeIn note) → Every EndedRight ended → Every TriesRight ended
       → Kept
-  left-as {after} {answer} order note ended left heard mine goes ends tries =
+  left-as {after} {answer} order note ended left heard mine its-ranks goes ends tries =
       subst Left (sym (left .is))
       (subst (Good (onward shared (stepOf (shared .book) ticket team .1) (withTicket (shared .tickets) team after)))
       (sym (ap (λ note. hearStep n team note answer) (turn .is) ∙ heard))
-      (goes-on shared n (turn .table) good team (turn .inside) (stepOf (shared .book) ticket team .1) after order note ended (length-kept (shared .book) ticket team ∙ good .whole) (left .keeps) mine goes ends tries))
+      (goes-on shared n (turn .table) good team (turn .inside) (stepOf (shared .book) ticket team .1) after order note ended (length-kept (shared .book) ticket team ∙ good .whole) (left .keeps) mine (subst (λ ranks. Under ranks note) my-ranks its-ranks) goes ends tries))
 
   -- The ticket is fit.
   pub fit : FitTicket (length (shared .book)) ticket
@@ -211,22 +230,22 @@ module _ {noted : Noted} (turn : Turn noted) where
 
   -- The order stays, and the ticket goes on;
   pub stays-as : {after : Ticket} {answer : StepAnswer} (next : Noted) → Leaving plain after answer → hearStepAnswer n team now answer ≡ noteTicket n team next
-      → PlaceKept team (n .order) (next .place) → Known after next → Kept
-  stays-as next left heard mine next-known =
-      left-as (n .order) (some next) (n .ended) left heard next-known (order-stays (good .ordered) mine) (good .ends) (good .tries)
+      → PlaceKept team (n .order) (next .place) → Known after next → next .ranks ≡ noted .ranks → Kept
+  stays-as next left heard mine next-known same-ranks =
+      left-as (n .order) (some next) (n .ended) left heard next-known same-ranks (order-stays (good .ordered) mine) (good .ends) (good .tries)
 
   -- or it is gone.
   pub ends-as : {answer : StepAnswer} (order : List Event) (end : Ended) → Leaving (wordOf (play order)) noTicket answer
-      → hearStepAnswer n team now answer ≡ notes order (retold (n .tickets) team none) (n .ended ++ (end ∷ [])) (n .outOfTurn)
+      → hearStepAnswer n team now answer ≡ notes order (retold (n .tickets) team none) (n .ended ++ (end ∷ [])) (n .ranks) (n .outOfTurn)
       → GoesOn team (n .order) order none → EndedRight end → TriesRight end → Kept
   ends-as order end left heard onward right tries =
-      left-as order none (n .ended ++ (end ∷ [])) left heard refl onward
+      left-as order none (n .ended ++ (end ∷ [])) left heard refl tt onward
       (every-last EndedRight (n .ended) end (good .ends) right) (every-last TriesRight (n .ended) end (good .tries) tries)
 
   -- The ticket goes on with the same words and one try more, and what was heard of it with one step more.
   pub advances : (base : Ticket) → wordsIn base ≡ wordsIn ticket → base .tries ≡ ticket .tries → {phase : Phase} {claimed done : ℕ} (after : Noted) → after .steps ≡ now .steps
-      → UpTo claimed (after .claimed) → UpTo done (after .released) → KnownAs (noted .asked) (advanced base phase claimed done) (asking (noted .asked) after)
-      → Known (advanced base phase claimed done) (asking (noted .asked) after)
+      → UpTo claimed (after .claimed) → UpTo done (after .released) → KnownAs (noted .asked) (advanced base phase claimed done) (asking (noted .asked) (noted .ranks) after)
+      → Known (advanced base phase claimed done) (asking (noted .asked) (noted .ranks) after)
   advances base same-words same-tries {phase} {claimed} {done} after one-more taken let-go rest = record {
     words = ap (map (λ one. one .word)) (targets-advanced base phase claimed done) ∙ same-words ∙ known .words;
     spent = ap oneMoreTry same-tries ∙ spent ∙ ap (λ steps. min steps mostTries) (sym one-more);

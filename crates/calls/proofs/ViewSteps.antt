@@ -48,7 +48,7 @@ view-shows {size} ticket plain words fit view names matches =
     ap (λ n. take n (valuesOf (valuesSeen ticket))) (sym many) ∙ all-shown (valuesNamed ticket) most ∙ values-named size ticket plain fit view matches ∙ ap (map plain) names
 
 -- A step of a view of which this was heard.
-module _ (words : List ℕ) (heard : Noted) (turn : Turn (asking (aView words) heard)) where
+module _ (words : List ℕ) (heard : Noted) (turn : Turn (asking (aView words) (heard .ranks) heard)) where
   abbrev n : Notes
   n = turn .n
 
@@ -64,17 +64,17 @@ module _ (words : List ℕ) (heard : Noted) (turn : Turn (asking (aView words) h
   abbrev plain : ℕ → ℕ
   plain = wordOf (play (n .order))
 
-  abbrev known : Known ticket (asking (aView words) heard)
+  abbrev known : Known ticket (asking (aView words) (heard .ranks) heard)
   known = turn .known
 
   abbrev watched : Noted
-  watched = withStep (asking (aView words) heard)
+  watched = withStep (asking (aView words) (heard .ranks) heard)
 
   -- It goes on with the same words, claimed and named.
   view-goes : (base : Ticket) → wordsIn base ≡ wordsIn ticket → namedIn base ≡ namedIn ticket → base .tries ≡ ticket .tries → {phase : Phase} {claimed done : ℕ} (after : Noted) → after .steps ≡ watched .steps
       → UpTo claimed (after .claimed) → UpTo done (after .released) → Undecided after → after .steps ≡ claimed + done + after .waits
-      → ViewIn phase (advanced base phase claimed done) (asking (aView words) after)
-      → Known (advanced base phase claimed done) (asking (aView words) after)
+      → ViewIn phase (advanced base phase claimed done) (asking (aView words) (heard .ranks) after)
+      → Known (advanced base phase claimed done) (asking (aView words) (heard .ranks) after)
   view-goes base same-words same-names same-tries {phase} {claimed} {done} after one-more taken let-go undecided swapped phase-heard =
       advances turn base same-words same-tries after one-more taken let-go record {
         fine = known .rest .fine;
@@ -84,8 +84,8 @@ module _ (words : List ℕ) (heard : Noted) (turn : Turn (asking (aView words) h
         phase = phase-heard;
       }
 
-  view-in : (phase : Phase) → ticket .phase ≡ phase → ViewIn phase ticket (asking (aView words) heard)
-  view-in phase e = subst (λ phase. ViewIn phase ticket (asking (aView words) heard)) e (known .rest .phase)
+  view-in : (phase : Phase) → ticket .phase ≡ phase → ViewIn phase ticket (asking (aView words) (heard .ranks) heard)
+  view-in phase e = subst (λ phase. ViewIn phase ticket (asking (aView words) (heard .ranks) heard)) e (known .rest .phase)
 
   step-notes : ticket .phase ≡ Viewing → ticket .claimed + 1 < ticket .n
       → (value : ℕ) → Leaving turn plain (advanced (noting ticket value) Viewing (ticket .claimed + 1) (ticket .done)) (Claimed (ticket .claimed + 1))
@@ -95,6 +95,7 @@ module _ (words : List ℕ) (heard : Noted) (turn : Turn (asking (aView words) h
       (heard-claim turn more) (my-place turn)
       (view-goes (noting ticket value) (words-noting ticket value) (names-noting ticket value) refl (withClaimed (ticket .claimed + 1) watched) refl
       (up-to-more (ticket .claimed) (heard .claimed) (known .claimed)) (known .released) (known .rest .undecided) (omega (arith, known .rest .swapped)) (view-in Viewing viewing))
+      refl
 
   view-waits : ticket .phase ≡ Viewing → (holder : ℕ) → Leaving turn plain (advanced ticket Viewing (ticket .claimed) (ticket .done)) (Waiting (targetAt ticket (ticket .claimed) .word) holder)
       → Kept turn
@@ -102,6 +103,7 @@ module _ (words : List ℕ) (heard : Noted) (turn : Turn (asking (aView words) h
       stays-as turn (withWait watched) left refl (my-place turn)
       (view-goes ticket refl refl refl (withWait watched) refl
       (known .claimed) (known .released) (known .rest .undecided) (omega (arith, known .rest .swapped)) (view-in Viewing viewing))
+      refl
 
   -- The last claim: the place is reserved, and all values noted are the plain words there.
   step-notes-last : ticket .phase ≡ Viewing → ticket .claimed + 1 ≡ ticket .n
@@ -121,10 +123,11 @@ module _ (words : List ℕ) (heard : Noted) (turn : Turn (asking (aView words) h
         placed = refl;
         shows = subst (λ targets. AllMatch targets plain) (sym (targets-advanced (noting ticket value) Viewed (ticket .claimed + 1) 0)) matches;
       })
+      refl
       (order-reserved (n .order) (good .ordered) team) (good .ends) (good .tries)
 
   module _ (viewed : ticket .phase ≡ Viewed) where
-    heard-viewed : HeardViewed ticket (asking (aView words) heard)
+    heard-viewed : HeardViewed ticket (asking (aView words) (heard .ranks) heard)
     heard-viewed = view-in Viewed viewed
 
     view-returns : Leaving turn plain (advanced ticket Viewed (ticket .claimed) (ticket .done + 1)) (Returned (ticket .done + 1))
@@ -139,6 +142,7 @@ module _ (words : List ℕ) (heard : Noted) (turn : Turn (asking (aView words) h
           shows =
               subst (λ targets. AllMatch targets (wordOf (play (heard-viewed .before)))) (sym (targets-advanced ticket Viewed (ticket .claimed) (ticket .done + 1))) (heard-viewed .shows);
         })
+        refl
 
     -- Seen: the place is filled.
     step-sees : ticket .done + 1 ≡ ticket .claimed

@@ -1,4 +1,4 @@
--- The way of a frame, as the code goes it, is what the call does where neither refusal 1 nor 2 applies.
+-- The way of a frame, as the code goes it, is what the call does where none of refusals 1, 13 and 2 applies.
 use Prim.Native.Nat.{ℕ, _≤_}
 use mathlib.Core.Path.{_≡_, refl, sym, ap, _∙_}
 use mathlib.Core.List.{List, [], _∷_}
@@ -12,6 +12,7 @@ use lib.ListN.{length}
 use lib.Seq.{set-getD}
 use Rattle.words.specs.Tests.{allHold, someHolds}
 use Rattle.words.specs.Words.{Words, wordsInBook, teamCount}
+use Rattle.legs.specs.Positions.{Ranks, Accepted}
 use Rattle.tickets.specs.declared.Ticket.{Ticket}
 use Rattle.tickets.specs.declared.Tickets.{Tickets}
 use Rattle.tickets.specs.Tickets.{absentSlot, ticketOf, withTicket, hasTicket, wellMade}
@@ -48,8 +49,8 @@ laterTests tickets angle request =
     ∷ fieldRepeated request
     ∷ []
 
-abbrev laterDone : Words → Tickets → Bool → Request → Done
-laterDone words tickets angle request = refusedOr (firstFrom 6 (laterTests tickets angle request)) words tickets request
+abbrev laterDone : Words → Tickets → Ranks → Bool → Request → Done
+laterDone words tickets ranks angle request = refusedOr (firstFrom 6 (laterTests tickets angle request)) words tickets ranks request
 
 -- A slot stored back as it was leaves the table.
 pub slot-same : (tickets : Tickets) (team : ℕ) → withTicket tickets team (ticketOf tickets team) ≡ tickets
@@ -59,12 +60,12 @@ slot-kept : (tickets : Tickets) (team : ℕ) (answer : Answer) (words : Words) �
 slot-kept tickets team answer words = ap (λ t. done answer t words) (sym (slot-same tickets team))
 
 -- A look: refusal 10, or its answer.
-look-way : (words : Words) (tickets : Tickets) (word : ℕ) → laterDone words tickets false (Look word) ≡ wayDone tickets 0 (lookSettled words (ticketOf tickets 0) word, words)
+look-way : (words : Words) (tickets : Tickets) (ranks : Ranks) (word : ℕ) → laterDone words tickets ranks false (Look word) ≡ wayDone tickets 0 (lookSettled words (ticketOf tickets 0) word, words)
 unfolding lookSettled requestDone someHolds
-look-way words tickets word = go (ltb word wordsInBook)
+look-way words tickets ranks word = go (ltb word wordsInBook)
   where
     go : (inside : Bool)
-        → refusedOr (firstFrom 6 (false ∷ false ∷ false ∷ false ∷ someHolds (false ∷ not inside ∷ []) ∷ false ∷ [])) words tickets (Look word)
+        → refusedOr (firstFrom 6 (false ∷ false ∷ false ∷ false ∷ someHolds (false ∷ not inside ∷ []) ∷ false ∷ [])) words tickets ranks (Look word)
         ≡ wayDone tickets 0 (settledWith (ticketOf tickets 0) (cond inside (Answer.Look (lookOf words word)) (Answer.Refused 10)), words)
     go true = slot-kept tickets 0 (Answer.Look (lookOf words word)) words
     go false = slot-kept tickets 0 (Answer.Refused 10) words
@@ -73,27 +74,27 @@ look-way words tickets word = go (ltb word wordsInBook)
 abbrev teamAim : ℕ → ℕ → Aim
 teamAim kind team = cond (ltb team teamCount) (Aim.Team kind team) (Aim.Refused 6)
 
-abbrev aimDone : Words → Tickets → Bytes → Aim → Done
-aimDone words tickets frame aim = wayDone tickets (slotOf aim) (settledBy words (ticketOf tickets (slotOf aim)) frame aim)
+abbrev aimDone : Words → Tickets → Ranks → Bytes → Aim → Done
+aimDone words tickets ranks frame aim = wayDone tickets (slotOf aim) (settledBy words (ticketOf tickets (slotOf aim)) ranks frame aim)
 
 -- A step: refusals 6, 7 and 9, or the step.
-step-way : (words : Words) (tickets : Tickets) (frame : Bytes) (team : ℕ) → laterDone words tickets false (Step team) ≡ aimDone words tickets frame (teamAim stepKind team)
+step-way : (words : Words) (tickets : Tickets) (ranks : Ranks) (frame : Bytes) (team : ℕ) → laterDone words tickets ranks false (Step team) ≡ aimDone words tickets ranks frame (teamAim stepKind team)
 unfolding requestDone settledBy teamSettled allHold someHolds
-step-way words tickets frame team = go (ltb team teamCount) (hasTicket (ticketOf tickets team .phase)) (wellMade (ticketOf tickets team)) refl refl
+step-way words tickets ranks frame team = go (ltb team teamCount) (hasTicket (ticketOf tickets team .phase)) (wellMade (ticketOf tickets team)) refl refl
   where
     go : (known stands made : Bool) → hasTicket (ticketOf tickets team .phase) ≡ stands → wellMade (ticketOf tickets team) ≡ made
-        → refusedOr (firstFrom 6 (not known ∷ allHold (stands ∷ not made ∷ []) ∷ false ∷ not stands ∷ someHolds (false ∷ false ∷ []) ∷ false ∷ [])) words tickets (Step team)
-        ≡ aimDone words tickets frame (cond known (Aim.Team stepKind team) (Aim.Refused 6))
+        → refusedOr (firstFrom 6 (not known ∷ allHold (stands ∷ not made ∷ []) ∷ false ∷ not stands ∷ someHolds (false ∷ false ∷ []) ∷ false ∷ [])) words tickets ranks (Step team)
+        ≡ aimDone words tickets ranks frame (cond known (Aim.Team stepKind team) (Aim.Refused 6))
     go false stands made h w = slot-kept tickets 0 (Answer.Refused 6) words
     go true true true h w = rw (h, w) refl
     go true true false h w = rw (h, w) (slot-kept tickets team (Answer.Refused 7) words)
     go true false made h w = rw h (slot-kept tickets team (Answer.Refused 9) words)
 
 -- An edit: refusals 6, 7, 8, 10 and 11, or its ticket.
-edit-way : (words : Words) (tickets : Tickets) (frame : Bytes) (kind : ℕ) → isEditKind kind ≡ true
-    → laterDone words tickets (not (anglesOfKind kind (partAfterKind frame))) (Open (teamIn (partAfterKind frame)) (editOfKind kind (partAfterKind frame))) ≡ aimDone words tickets frame (teamAim kind (teamIn (partAfterKind frame)))
+edit-way : (words : Words) (tickets : Tickets) (ranks : Ranks) (frame : Bytes) (kind : ℕ) → isEditKind kind ≡ true
+    → laterDone words tickets ranks (not (anglesOfKind kind (partAfterKind frame))) (Open (teamIn (partAfterKind frame)) (editOfKind kind (partAfterKind frame))) ≡ aimDone words tickets ranks frame (teamAim kind (teamIn (partAfterKind frame)))
 unfolding requestDone settledBy teamSettled newSettled allHold someHolds editRead readEdit openSettled
-edit-way words tickets frame kind is-edit =
+edit-way words tickets ranks frame kind is-edit =
     go (ltb team teamCount) (hasTicket (ticketOf tickets team .phase)) (wellMade (ticketOf tickets team)) (anglesOfKind kind (partAfterKind frame)) (editInRange edit) (editRepeats edit) refl refl refl refl refl
   where
     team : ℕ
@@ -109,8 +110,8 @@ edit-way words tickets frame kind is-edit =
     no-view = edit-kind kind is-edit .2
 
     go : (known stands made angles range repeats : Bool) → hasTicket (ticketOf tickets team .phase) ≡ stands → wellMade (ticketOf tickets team) ≡ made → anglesOfKind kind (partAfterKind frame) ≡ angles → editInRange edit ≡ range → editRepeats edit ≡ repeats
-        → refusedOr (firstFrom 6 (not known ∷ allHold (stands ∷ not made ∷ []) ∷ stands ∷ false ∷ someHolds (not angles ∷ not range ∷ []) ∷ repeats ∷ [])) words tickets (Open team edit)
-        ≡ aimDone words tickets frame (cond known (Aim.Team kind team) (Aim.Refused 6))
+        → refusedOr (firstFrom 6 (not known ∷ allHold (stands ∷ not made ∷ []) ∷ stands ∷ false ∷ someHolds (not angles ∷ not range ∷ []) ∷ repeats ∷ [])) words tickets ranks (Open team edit)
+        ≡ aimDone words tickets ranks frame (cond known (Aim.Team kind team) (Aim.Refused 6))
     go false stands made angles range repeats h w a r s = slot-kept tickets 0 (Answer.Refused 6) words
     go true true true angles range repeats h w a r s = rw (h, w, other) (slot-kept tickets team (Answer.Refused 8) words)
     go true true false angles range repeats h w a r s = rw (h, w) (slot-kept tickets team (Answer.Refused 7) words)
@@ -120,11 +121,11 @@ edit-way words tickets frame kind is-edit =
     go true false made false range repeats h w a r s = rw (h, other, no-view, a) (slot-kept tickets team (Answer.Refused 10) words)
 
 -- A view: likewise.
-view-way : (words : Words) (tickets : Tickets) (frame : Bytes)
-    → laterDone words tickets false (View (teamIn (partAfterKind frame)) (number16 (partAfterKind frame) 2) (viewWordsIn (partAfterKind frame)))
-    ≡ aimDone words tickets frame (teamAim viewKind (teamIn (partAfterKind frame)))
+view-way : (words : Words) (tickets : Tickets) (ranks : Ranks) (frame : Bytes)
+    → laterDone words tickets ranks false (View (teamIn (partAfterKind frame)) (number16 (partAfterKind frame) 2) (viewWordsIn (partAfterKind frame)))
+    ≡ aimDone words tickets ranks frame (teamAim viewKind (teamIn (partAfterKind frame)))
 unfolding requestDone settledBy teamSettled newSettled allHold someHolds viewRead viewSettled
-view-way words tickets frame =
+view-way words tickets ranks frame =
     go (ltb team teamCount) (hasTicket (ticketOf tickets team .phase)) (wellMade (ticketOf tickets team)) (viewInRange n named) (viewRepeats named) refl refl refl refl
   where
     team : ℕ
@@ -137,13 +138,13 @@ view-way words tickets frame =
     named = viewWordsIn (partAfterKind frame)
 
     go : (known stands made range repeats : Bool) → hasTicket (ticketOf tickets team .phase) ≡ stands → wellMade (ticketOf tickets team) ≡ made → viewInRange n named ≡ range → viewRepeats named ≡ repeats
-        → refusedOr (firstFrom 6 (not known ∷ allHold (stands ∷ not made ∷ []) ∷ stands ∷ false ∷ someHolds (false ∷ not range ∷ []) ∷ repeats ∷ [])) words tickets (View team n named)
-        ≡ aimDone words tickets frame (cond known (Aim.Team viewKind team) (Aim.Refused 6))
+        → refusedOr (firstFrom 6 (not known ∷ allHold (stands ∷ not made ∷ []) ∷ stands ∷ false ∷ someHolds (false ∷ not range ∷ []) ∷ repeats ∷ [])) words tickets ranks (View team n named)
+        ≡ aimDone words tickets ranks frame (cond known (Aim.Team viewKind team) (Aim.Refused 6))
     go false stands made range repeats h w r s = slot-kept tickets 0 (Answer.Refused 6) words
     go true true true range repeats h w r s = rw (h, w) (slot-kept tickets team (Answer.Refused 8) words)
     go true true false range repeats h w r s = rw (h, w) (slot-kept tickets team (Answer.Refused 7) words)
     go true false made true true h w r s = rw (h, r, s) (slot-kept tickets team (Answer.Refused 11) words)
-    go true false made true false h w r s = rw (h, r, s) (ap (λ (l : List ℕ). done (Answer.Standing (length named)) (withTicket tickets team (openedView l)) words) (sym (words-named named)))
+    go true false made true false h w r s = rw (h, r, s) (ap (λ (l : List ℕ). done (Answer.Standing (length named)) (withTicket tickets team (openedView ranks l)) words) (sym (words-named named)))
     go true false made false repeats h w r s = rw (h, r) (slot-kept tickets team (Answer.Refused 10) words)
 
 -- What the header says of the aim, the request and the kind.
@@ -160,42 +161,42 @@ edit-left frame kind header not-look not-step not-view =
     let (torn, unknown, wrong, is) = kind-tests frame kind header in
     other-kind kind (ap isKind (sym is) ∙ not-false _ unknown) (ne-eqb kind stepKind not-step) (ne-eqb kind lookKind not-look) (ne-eqb kind viewKind not-view)
 
-look-done : (words : Words) (tickets : Tickets) (frame : Bytes) → laterDone words tickets false (Look (number16 (partAfterKind frame) 0)) ≡ aimDone words tickets frame Aim.Look
+look-done : (words : Words) (tickets : Tickets) (ranks : Ranks) (frame : Bytes) → laterDone words tickets ranks false (Look (number16 (partAfterKind frame) 0)) ≡ aimDone words tickets ranks frame Aim.Look
 unfolding settledBy
-look-done words tickets frame = look-way words tickets (number16 (partAfterKind frame) 0)
+look-done words tickets ranks frame = look-way words tickets ranks (number16 (partAfterKind frame) 0)
 
-module _ (words : Words) (tickets : Tickets) (frame out : Bytes) (whole : length words ≡ wordsInBook) (room : longestAnswer ≤ length out) where
-  -- Neither 1 nor 2 applies.
-  from-three : refusalOf words tickets frame out ≡ firstFrom 3 (frameTorn frame ∷ kindUnknown frame ∷ lengthWrong frame ∷ laterTests tickets (angleOutOfRange frame) (requestIn frame))
+module _ (words : Words) (tickets : Tickets) (ranks : Ranks) (frame out : Bytes) (whole : length words ≡ wordsInBook) (accepted : Accepted ranks) (room : longestAnswer ≤ length out) where
+  -- None of 1, 13 and 2 applies.
+  from-three : refusalOf words tickets ranks frame out ≡ firstFrom 3 (frameTorn frame ∷ kindUnknown frame ∷ lengthWrong frame ∷ laterTests tickets (angleOutOfRange frame) (requestIn frame))
   unfolding refusalOf refusalChecks
-  from-three = rw (eq-eqb (length words) wordsInBook whole, le-ltb (length out) longestAnswer room) refl
+  from-three = rw (eq-eqb (length words) wordsInBook whole, accepted, le-ltb (length out) longestAnswer room) refl
 
-  refused-way : (number : ℕ) → headerOf frame ≡ Header.Refused number → refusalOf words tickets frame out ≡ some number → doneOf words tickets frame out ≡ wayOf words tickets frame
+  refused-way : (number : ℕ) → headerOf frame ≡ Header.Refused number → refusalOf words tickets ranks frame out ≡ some number → doneOf words tickets ranks frame out ≡ wayOf words tickets ranks frame
   unfolding doneOf wayOf settledBy
   refused-way number header refusal =
       let aimed : aimOf frame ≡ Aim.Refused number = aim-by frame (Header.Refused number) header in
       rw (refusal, aimed) (slot-kept tickets 0 (Answer.Refused number) words)
 
   kind-way : (kind : ℕ) (angle : Bool) (aim : Aim) (request : Request) → headerOf frame ≡ Header.Kind kind → not (anglesOfKind kind (partAfterKind frame)) ≡ angle → aimBy frame (Header.Kind kind) ≡ aim → requestOfKind kind (partAfterKind frame) ≡ request
-      → laterDone words tickets angle request ≡ aimDone words tickets frame aim
-      → doneOf words tickets frame out ≡ wayOf words tickets frame
+      → laterDone words tickets ranks angle request ≡ aimDone words tickets ranks frame aim
+      → doneOf words tickets ranks frame out ≡ wayOf words tickets ranks frame
   unfolding doneOf wayOf
   kind-way kind angle aim request header sent aimed asked later =
       let (torn, unknown, wrong, is) = kind-tests frame kind header in
       let request-is : requestIn frame ≡ request = asked-by frame kind is ∙ asked in
       let angle-is : angleOutOfRange frame ≡ angle = ap (λ (k : ℕ). not (anglesOfKind k (partAfterKind frame))) is ∙ sent in
       let aim-is : aimOf frame ≡ aim = aim-by frame (Header.Kind kind) header ∙ aimed in
-      let six : refusalOf words tickets frame out ≡ firstFrom 6 (laterTests tickets (angleOutOfRange frame) (requestIn frame)) = from-three ∙ (λ i. firstFrom 3 (torn i ∷ unknown i ∷ wrong i ∷ laterTests tickets (angleOutOfRange frame) (requestIn frame))) in
-      ap (λ x. refusedOr x words tickets (requestIn frame)) six
-      ∙ (λ i. laterDone words tickets (angle-is i) (request-is i))
+      let six : refusalOf words tickets ranks frame out ≡ firstFrom 6 (laterTests tickets (angleOutOfRange frame) (requestIn frame)) = from-three ∙ (λ i. firstFrom 3 (torn i ∷ unknown i ∷ wrong i ∷ laterTests tickets (angleOutOfRange frame) (requestIn frame))) in
+      ap (λ x. refusedOr x words tickets ranks (requestIn frame)) six
+      ∙ (λ i. laterDone words tickets ranks (angle-is i) (request-is i))
       ∙ later
-      ∙ ap (aimDone words tickets frame) (sym aim-is)
+      ∙ ap (aimDone words tickets ranks frame) (sym aim-is)
 
   -- Other kinds have no angles in minutes.
   no-angles : (kind other : ℕ) → kind ≡ other → not (anglesOfKind other (partAfterKind frame)) ≡ false → not (anglesOfKind kind (partAfterKind frame)) ≡ false
   no-angles kind other same untold = ap (λ (k : ℕ). not (anglesOfKind k (partAfterKind frame))) same ∙ untold
 
-  by-header : (header : Header) → headerOf frame ≡ header → doneOf words tickets frame out ≡ wayOf words tickets frame
+  by-header : (header : Header) → headerOf frame ≡ header → doneOf words tickets ranks frame out ≡ wayOf words tickets ranks frame
   unfolding anglesOfKind
   by-header (Header.Refused number) e = refused-way number e (elim (refused-tests frame number e) [
     | inl t ↦ from-three ∙ rw (t .0) (ap some (sym (t .1)))
@@ -205,17 +206,17 @@ module _ (words : Words) (tickets : Tickets) (frame out : Bytes) (whole : length
     ]
   ])
   by-header (Header.Kind kind) e = elim (ℕ-discrete kind lookKind) [
-    | yes look ↦ kind-way kind false Aim.Look (Look (number16 (partAfterKind frame) 0)) e (no-angles kind lookKind look refl) (rw (eq-eqb kind lookKind look) refl) (rw look (look-asked (partAfterKind frame))) (look-done words tickets frame)
+    | yes look ↦ kind-way kind false Aim.Look (Look (number16 (partAfterKind frame) 0)) e (no-angles kind lookKind look refl) (rw (eq-eqb kind lookKind look) refl) (rw look (look-asked (partAfterKind frame))) (look-done words tickets ranks frame)
     | no other ↦ elim (ℕ-discrete kind stepKind) [
-      | yes step ↦ kind-way kind false (teamAim stepKind (teamIn (partAfterKind frame))) (Step (teamIn (partAfterKind frame))) e (no-angles kind stepKind step refl) (rw (ne-eqb kind lookKind other, step) refl) (rw step (step-asked (partAfterKind frame))) (step-way words tickets frame (teamIn (partAfterKind frame)))
+      | yes step ↦ kind-way kind false (teamAim stepKind (teamIn (partAfterKind frame))) (Step (teamIn (partAfterKind frame))) e (no-angles kind stepKind step refl) (rw (ne-eqb kind lookKind other, step) refl) (rw step (step-asked (partAfterKind frame))) (step-way words tickets ranks frame (teamIn (partAfterKind frame)))
       | no not-step ↦ elim (ℕ-discrete kind viewKind) [
-        | yes view ↦ kind-way kind false (teamAim viewKind (teamIn (partAfterKind frame))) (View (teamIn (partAfterKind frame)) (number16 (partAfterKind frame) 2) (viewWordsIn (partAfterKind frame))) e (no-angles kind viewKind view refl) (rw (ne-eqb kind lookKind other, view) refl) (rw view (view-asked (partAfterKind frame))) (view-way words tickets frame)
+        | yes view ↦ kind-way kind false (teamAim viewKind (teamIn (partAfterKind frame))) (View (teamIn (partAfterKind frame)) (number16 (partAfterKind frame) 2) (viewWordsIn (partAfterKind frame))) e (no-angles kind viewKind view refl) (rw (ne-eqb kind lookKind other, view) refl) (rw view (view-asked (partAfterKind frame))) (view-way words tickets ranks frame)
         | no not-view ↦
             let edit = edit-left frame kind e other not-step not-view in
-            kind-way kind (not (anglesOfKind kind (partAfterKind frame))) (teamAim kind (teamIn (partAfterKind frame))) (Open (teamIn (partAfterKind frame)) (editOfKind kind (partAfterKind frame))) e refl (rw (ne-eqb kind lookKind other) refl) (edit-asked kind (partAfterKind frame) edit) (edit-way words tickets frame kind edit)
+            kind-way kind (not (anglesOfKind kind (partAfterKind frame))) (teamAim kind (teamIn (partAfterKind frame))) (Open (teamIn (partAfterKind frame)) (editOfKind kind (partAfterKind frame))) e refl (rw (ne-eqb kind lookKind other) refl) (edit-asked kind (partAfterKind frame) edit) (edit-way words tickets ranks frame kind edit)
       ]
     ]
   ]
 
 pub way-is-call : WayIsCall
-way-is-call words tickets frame out whole room = by-header words tickets frame out whole room (headerOf frame) refl
+way-is-call words tickets ranks frame out whole accepted room = by-header words tickets ranks frame out whole accepted room (headerOf frame) refl

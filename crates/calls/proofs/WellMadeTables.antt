@@ -11,6 +11,7 @@ use lib.Dec.{eqb}
 use lib.ListN.{length, getD, set, take, drop}
 use Rattle.words.specs.Words.{Words, teamCount}
 use Rattle.words.proofs.Tests.{join}
+use Rattle.legs.specs.Positions.{Ranks}
 use Rattle.tickets.specs.declared.Ticket.{Ticket}
 use Rattle.tickets.specs.declared.Tickets.{Tickets}
 use Rattle.tickets.specs.Tickets.{noTicket, absentSlot, ticketOf, withTicket, hasTicket, wellMade}
@@ -110,23 +111,23 @@ step-well-made words ticket team made = elim (well-made-kept words ticket team m
   | inr gone ↦ empty-well-made (stepOf words ticket team .0 .ticket) (ap (λ (t : Ticket). hasTicket (t .phase)) gone)
 ]
 
-open-well-made : (ticket : Ticket) (kind : ℕ) (part : Bytes) → areBytes part ≡ true → SlotWellMade ticket → SlotWellMade (openSettled ticket (readEdit kind part) .ticket)
+open-well-made : (ticket : Ticket) (ranks : Ranks) (kind : ℕ) (part : Bytes) → areBytes part ≡ true → SlotWellMade ticket → SlotWellMade (openSettled ticket ranks (readEdit kind part) .ticket)
 unfolding openSettled editRead readEdit
-open-well-made ticket kind part bytes sound = go (anglesOfKind kind part) (editInRange edit) (editRepeats edit) refl refl
+open-well-made ticket ranks kind part bytes sound = go (anglesOfKind kind part) (editInRange edit) (editRepeats edit) refl refl
   where
     edit : Edit
     edit = editOfKind kind part
 
     go : (angles range repeats : Bool) → editInRange edit ≡ range → editRepeats edit ≡ repeats
-        → SlotWellMade (openSettled ticket (cond angles (cond range (cond repeats (EditRead.Refused 11) (EditRead.Is edit)) (EditRead.Refused 10)) (EditRead.Refused 10)) .ticket)
+        → SlotWellMade (openSettled ticket ranks (cond angles (cond range (cond repeats (EditRead.Refused 11) (EditRead.Is edit)) (EditRead.Refused 10)) (EditRead.Refused 10)) .ticket)
     go true true true r s = sound
-    go true true false r s = λ stands. opened-tickets-well-made edit (join (editInRange edit ∷ not (editRepeats edit) ∷ []) (r, (ap not s, tt))) (edit-stations kind part bytes)
+    go true true false r s = λ stands. opened-tickets-well-made ranks edit (join (editInRange edit ∷ not (editRepeats edit) ∷ []) (r, (ap not s, tt))) (edit-stations kind part bytes)
     go true false repeats r s = sound
     go false range repeats r s = sound
 
-view-well-made : (ticket : Ticket) (part : Bytes) → ViewFields part → SlotWellMade ticket → SlotWellMade (viewSettled ticket (viewRead (number16 part 2) (viewWordsIn part)) .ticket)
+view-well-made : (ticket : Ticket) (ranks : Ranks) (part : Bytes) → ViewFields part → SlotWellMade ticket → SlotWellMade (viewSettled ticket ranks (viewRead (number16 part 2) (viewWordsIn part)) .ticket)
 unfolding viewSettled viewRead
-view-well-made ticket part fields sound = go (viewInRange n words) (viewRepeats words) refl refl
+view-well-made ticket ranks part fields sound = go (viewInRange n words) (viewRepeats words) refl refl
   where
     n : ℕ
     n = number16 part 2
@@ -135,29 +136,29 @@ view-well-made ticket part fields sound = go (viewInRange n words) (viewRepeats 
     words = viewWordsIn part
 
     go : (range repeats : Bool) → viewInRange n words ≡ range → viewRepeats words ≡ repeats
-        → SlotWellMade (viewSettled ticket (cond range (cond repeats (readAs (Reading.Refused 11) []) (readAs Reading.Is words)) (readAs (Reading.Refused 10) [])) .ticket)
+        → SlotWellMade (viewSettled ticket ranks (cond range (cond repeats (readAs (Reading.Refused 11) []) (readAs Reading.Is words)) (readAs (Reading.Refused 10) [])) .ticket)
     go true true r s = sound
-    go true false r s = λ stands. ap (λ (named : List ℕ). wellMade (openedView named)) (words-named words) ∙ opened-views-well-made words (fine-view n words (named-many part fields) r s)
+    go true false r s = λ stands. ap (λ (named : List ℕ). wellMade (openedView ranks named)) (words-named words) ∙ opened-views-well-made ranks words (fine-view n words (named-many part fields) r s)
     go false repeats r s = sound
 
-team-well-made : (words : Words) (ticket : Ticket) (part : Bytes) (kind team : ℕ) → FieldsOf kind part → areBytes part ≡ true → SlotWellMade ticket → SlotWellMade (teamSettled words ticket part kind team .0 .ticket)
+team-well-made : (words : Words) (ticket : Ticket) (ranks : Ranks) (part : Bytes) (kind team : ℕ) → FieldsOf kind part → areBytes part ≡ true → SlotWellMade ticket → SlotWellMade (teamSettled words ticket ranks part kind team .0 .ticket)
 unfolding teamSettled newSettled
-team-well-made words ticket part kind team fields bytes sound = go (hasTicket (ticket .phase)) (wellMade ticket) (eqb kind stepKind) (eqb kind viewKind) refl fields
+team-well-made words ticket ranks part kind team fields bytes sound = go (hasTicket (ticket .phase)) (wellMade ticket) (eqb kind stepKind) (eqb kind viewKind) refl fields
   where
     go : (stands made step view : Bool) → wellMade ticket ≡ made → cond view (ViewFields part) (length part ≡ lengthOfKind kind - 2)
         → SlotWellMade ((cond {A = Settled × Words} stands
         (cond made (cond step (stepSettled (stepOf words ticket team)) (settledWith ticket (Answer.Refused 8), words)) (settledWith ticket (Answer.Refused 7), words))
         (cond step (settledWith ticket (Answer.Refused 9), words)
-        (cond view (viewSettled ticket (viewRead (number16 part 2) (viewWordsIn part))) (openSettled ticket (readEdit kind part)), words))) .0 .ticket)
+        (cond view (viewSettled ticket ranks (viewRead (number16 part 2) (viewWordsIn part))) (openSettled ticket ranks (readEdit kind part)), words))) .0 .ticket)
     go true true true view m f = step-well-made words ticket team m
     go true true false view m f = sound
     go true false step view m f = sound
     go false made true view m f = sound
-    go false made false true m f = view-well-made ticket part f sound
-    go false made false false m f = open-well-made ticket kind part bytes sound
+    go false made false true m f = view-well-made ticket ranks part f sound
+    go false made false false m f = open-well-made ticket ranks kind part bytes sound
 
-pub settled-well-made : (words : Words) (ticket : Ticket) (frame : Bytes) (aim : Aim) → AimKnown frame aim → areBytes frame ≡ true → SlotWellMade ticket → SlotWellMade (settledBy words ticket frame aim .0 .ticket)
+pub settled-well-made : (words : Words) (ticket : Ticket) (ranks : Ranks) (frame : Bytes) (aim : Aim) → AimKnown frame aim → areBytes frame ≡ true → SlotWellMade ticket → SlotWellMade (settledBy words ticket ranks frame aim .0 .ticket)
 unfolding settledBy lookSettled
-settled-well-made words ticket frame (Aim.Refused number) known bytes sound = sound
-settled-well-made words ticket frame Aim.Look known bytes sound = sound
-settled-well-made words ticket frame (Aim.Team kind team) known bytes sound = team-well-made words ticket (partAfterKind frame) kind team (known .0 .fields) (bytes-after 4 frame bytes) sound
+settled-well-made words ticket ranks frame (Aim.Refused number) known bytes sound = sound
+settled-well-made words ticket ranks frame Aim.Look known bytes sound = sound
+settled-well-made words ticket ranks frame (Aim.Team kind team) known bytes sound = team-well-made words ticket ranks (partAfterKind frame) kind team (known .0 .fields) (bytes-after 4 frame bytes) sound

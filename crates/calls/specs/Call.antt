@@ -7,6 +7,7 @@ use lib.ListN.{length}
 use lib.Dec.{eqb, ltb}
 use Rattle.words.specs.Tests.{allHold, occurs}
 use Rattle.words.specs.Words.{Words, wordsInBook, teamCount}
+use Rattle.legs.specs.Positions.{Ranks, isPermutation}
 use Rattle.tickets.specs.declared.Ticket.{Ticket}
 use Rattle.tickets.specs.declared.Tickets.{Tickets}
 use Rattle.tickets.specs.declared.Stepped.{Stepped}
@@ -26,6 +27,10 @@ use Rattle.calls.specs.declared.Reply.{Reply}
 -- 1. The book isn't 4,096 words long.
 abbrev pub bookLengthWrong : Words → Bool
 bookLengthWrong words = not (eqb (length words) wordsInBook)
+
+-- 13. "Not 32 ranks or not each of 0 to 31."
+abbrev pub ranksWrong : Ranks → Bool
+ranksWrong ranks = not (isPermutation ranks)
 
 -- 2. The output is shorter than 52 bytes.
 abbrev pub outputShort : Bytes → Bool
@@ -75,11 +80,12 @@ abbrev pub firstOf : List Check → Option ℕ
 firstOf [] = none
 firstOf (one ∷ later) = cond (one .applies) (some (one .number)) (firstOf later)
 
--- "Frames refused, in checking order".
-unfoldable pub refusalChecks : Words → Tickets → Bytes → Bytes → List Check
-refusalChecks words tickets frame out =
+-- "Frames refused, in checking order"; (request 8) "13 .. after 1".
+unfoldable pub refusalChecks : Words → Tickets → Ranks → Bytes → Bytes → List Check
+refusalChecks words tickets ranks frame out =
     let request = requestIn frame in
     check 1 (bookLengthWrong words)
+    ∷ check 13 (ranksWrong ranks)
     ∷ check 2 (outputShort out)
     ∷ check 3 (frameTorn frame)
     ∷ check 4 (kindUnknown frame)
@@ -92,8 +98,8 @@ refusalChecks words tickets frame out =
     ∷ check 11 (fieldRepeated request)
     ∷ []
 
-unfoldable pub refusalOf : Words → Tickets → Bytes → Bytes → Option ℕ
-refusalOf words tickets frame out = firstOf (refusalChecks words tickets frame out)
+unfoldable pub refusalOf : Words → Tickets → Ranks → Bytes → Bytes → Option ℕ
+refusalOf words tickets ranks frame out = firstOf (refusalChecks words tickets ranks frame out)
 
 -- What a call does before it is answered: the answer, the tickets and the words that it leaves.
 pub record Done : Type 0 where
@@ -108,29 +114,29 @@ done answer tickets words = record { answer = answer; tickets = tickets; words =
 abbrev pub stepDone : Tickets → ℕ → Stepped × Words → Done
 stepDone tickets team result = done (Answer.Step (result .0 .answer)) (withTicket tickets team (result .0 .ticket)) (result .1)
 
--- What a request does: an edit or a view opens a ticket and changes no word (Standing); a step is one swap; a look is one read.
-unfoldable pub requestDone : Words → Tickets → Request → Done
-requestDone words tickets (Open team edit) = done (Answer.Standing (targetCount edit)) (withTicket tickets team (openedTicket edit)) words
-requestDone words tickets (Step team) = stepDone tickets team (stepOf words (ticketOf tickets team) team)
-requestDone words tickets (Look word) = done (Answer.Look (lookOf words word)) tickets words
-requestDone words tickets (View team n named) = done (Answer.Standing (length named)) (withTicket tickets team (openedView named)) words
+-- What a request does: an edit or a view opens a ticket, its targets by the ranks, and changes no word (Standing); a step is one swap; a look is one read.
+unfoldable pub requestDone : Words → Tickets → Ranks → Request → Done
+requestDone words tickets ranks (Open team edit) = done (Answer.Standing (targetCount edit)) (withTicket tickets team (openedTicket ranks edit)) words
+requestDone words tickets ranks (Step team) = stepDone tickets team (stepOf words (ticketOf tickets team) team)
+requestDone words tickets ranks (Look word) = done (Answer.Look (lookOf words word)) tickets words
+requestDone words tickets ranks (View team n named) = done (Answer.Standing (length named)) (withTicket tickets team (openedView ranks named)) words
 
 -- A refusal, where "book and tickets keep every value", or what the request does.
-abbrev pub refusedOr : Option ℕ → Words → Tickets → Request → Done
-refusedOr none words tickets request = requestDone words tickets request
-refusedOr (some number) words tickets request = done (Answer.Refused number) tickets words
+abbrev pub refusedOr : Option ℕ → Words → Tickets → Ranks → Request → Done
+refusedOr none words tickets ranks request = requestDone words tickets ranks request
+refusedOr (some number) words tickets ranks request = done (Answer.Refused number) tickets words
 
-unfoldable pub doneOf : Words → Tickets → Bytes → Bytes → Done
-doneOf words tickets frame out = refusedOr (refusalOf words tickets frame out) words tickets (requestIn frame)
+unfoldable pub doneOf : Words → Tickets → Ranks → Bytes → Bytes → Done
+doneOf words tickets ranks frame out = refusedOr (refusalOf words tickets ranks frame out) words tickets ranks (requestIn frame)
 
 -- What goes out: a number alone, or the bytes of an answer.
 pub data Sent : Type 0 where
   number : ℕ → Sent
   bytes : Bytes → Sent
 
--- "1 and 2 return their number and write nothing; 3 to 11 write a Refused frame."
+-- "1 and 2 return their number and write nothing; 3 to 11 write a Refused frame." (Request 8) A frame "returns 13 and writes nothing", too.
 abbrev pub isReturned : ℕ → Bool
-isReturned refusal = occurs refusal (1 ∷ 2 ∷ [])
+isReturned refusal = occurs refusal (1 ∷ 13 ∷ 2 ∷ [])
 
 unfoldable pub sentOf : Answer → Sent
 sentOf (Answer.Standing n) = bytes (answerFrame (Answer.Standing n))
@@ -143,9 +149,9 @@ abbrev pub writtenBy : Bytes → Sent → ℕ × Bytes
 writtenBy out (number refusal) = (refusal, out)
 writtenBy out (bytes answer) = written out answer
 
--- What the call does, for every book, table, frame and output: return and tickets, the words, the output's bytes.
-unfoldable pub callOf : Words → Tickets → Bytes → Bytes → Reply × Words × Bytes
-callOf words tickets frame out =
-    let result = doneOf words tickets frame out in
+-- What the call does, for every book, table, ranks, frame and output: return and tickets, the words, the output's bytes. It writes no rank.
+unfoldable pub callOf : Words → Tickets → Ranks → Bytes → Bytes → Reply × Words × Bytes
+callOf words tickets ranks frame out =
+    let result = doneOf words tickets ranks frame out in
     let output = writtenBy out (sentOf (result .answer)) in
     (record { written = output .0; tickets = result .tickets }, result .words, output .1)

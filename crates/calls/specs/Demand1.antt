@@ -1,10 +1,11 @@
--- Demand 1: every frame gets one answer from the list, for every book and ticket table; a refusal changes no word and no ticket.
+-- Demand 1: every frame gets one answer from the list, for every book, ticket table and ranks; a refusal changes no word and no ticket.
 use Prim.Native.Nat.{ℕ, _≤_, _<_}
 use mathlib.Core.Path.{_≡_}
 use mathlib.Core.Bool.{true}
 use mathlib.Core.Option.{none, some}
 use lib.ListN.{length, take, drop}
 use Rattle.words.specs.Words.{Words, mostTargets, teamCount}
+use Rattle.legs.specs.Positions.{Ranks}
 use Rattle.tickets.specs.declared.Ticket.{Ticket}
 use Rattle.tickets.specs.declared.Tickets.{Tickets}
 use Rattle.tickets.specs.declared.StepAnswer.{StepAnswer}
@@ -19,7 +20,7 @@ use Rattle.frames.specs.Numbers.{Bytes}
 use Rattle.frames.specs.Requests.{headBytes, requestIn}
 use Rattle.frames.specs.Answers.{longestAnswer}
 use Rattle.frames.specs.Reading.{answerIn, answerFits}
-use Rattle.calls.specs.Call.{refusalOf, doneOf, callOf}
+use Rattle.calls.specs.Call.{refusalOf, isReturned, doneOf, callOf}
 use Rattle.calls.specs.Run.{framed, Shared, answerHeard, heardOf}
 
 -- A slot as the code has it: room for six targets, and tries of 32 bits.
@@ -42,47 +43,47 @@ pub data AnswerTo : Request → Answer → Type 0 where
   viewing : (team n : ℕ) {words : _} → AnswerTo (View team n words) (Answer.Standing (length words))
 
 -- Book and tickets keep every value.
-pub record NothingChanged (words : Words) (tickets : Tickets) (frame out : Bytes) : Type 0 where
-  pub same-tickets : callOf words tickets frame out .0 .tickets ≡ tickets
-  pub same-words : callOf words tickets frame out .1 ≡ words
+pub record NothingChanged (words : Words) (tickets : Tickets) (ranks : Ranks) (frame out : Bytes) : Type 0 where
+  pub same-tickets : callOf words tickets ranks frame out .0 .tickets ≡ tickets
+  pub same-words : callOf words tickets ranks frame out .1 ≡ words
 
 -- Exactly one answer is written, at the front of the output; it is read back from its bytes, and later bytes keep their contents.
-pub record Answers (words : Words) (tickets : Tickets) (frame out : Bytes) (answer : Answer) : Type 0 where
-  pub bytes-read : answerIn (take (callOf words tickets frame out .0 .written) (callOf words tickets frame out .2)) ≡ some answer
-  pub at-least : headBytes ≤ callOf words tickets frame out .0 .written
-  pub at-most : callOf words tickets frame out .0 .written ≤ longestAnswer
-  pub later-bytes : drop (callOf words tickets frame out .0 .written) (callOf words tickets frame out .2) ≡ drop (callOf words tickets frame out .0 .written) out
+pub record Answers (words : Words) (tickets : Tickets) (ranks : Ranks) (frame out : Bytes) (answer : Answer) : Type 0 where
+  pub bytes-read : answerIn (take (callOf words tickets ranks frame out .0 .written) (callOf words tickets ranks frame out .2)) ≡ some answer
+  pub at-least : headBytes ≤ callOf words tickets ranks frame out .0 .written
+  pub at-most : callOf words tickets ranks frame out .0 .written ≤ longestAnswer
+  pub later-bytes : drop (callOf words tickets ranks frame out .0 .written) (callOf words tickets ranks frame out .2) ≡ drop (callOf words tickets ranks frame out .0 .written) out
 
 -- What a call can come to.
-pub data Answered (words : Words) (tickets : Tickets) (frame out : Bytes) : Type 0 where
-  -- Refusal 1 or 2, the first test that applies: it returns its number and writes nothing.
-  turned-away : (number : ℕ) → refusalOf words tickets frame out ≡ some number → 1 ≤ number → number ≤ 2
-      → callOf words tickets frame out .0 .written ≡ number
-      → callOf words tickets frame out .2 ≡ out
-      → NothingChanged words tickets frame out
-      → Answered words tickets frame out
-  -- Refusal 3 to 11, the first test that applies: a Refused frame.
-  refused : (number : ℕ) → refusalOf words tickets frame out ≡ some number → 3 ≤ number → number ≤ 11
-      → Answers words tickets frame out (Answer.Refused number)
-      → NothingChanged words tickets frame out
-      → Answered words tickets frame out
+pub data Answered (words : Words) (tickets : Tickets) (ranks : Ranks) (frame out : Bytes) : Type 0 where
+  -- Refusal 1, 13 or 2, the first that applies: it returns its number and writes nothing.
+  turned-away : (number : ℕ) → refusalOf words tickets ranks frame out ≡ some number → isReturned number ≡ true
+      → callOf words tickets ranks frame out .0 .written ≡ number
+      → callOf words tickets ranks frame out .2 ≡ out
+      → NothingChanged words tickets ranks frame out
+      → Answered words tickets ranks frame out
+  -- Refusal 3 to 11, the first that applies: a Refused frame.
+  refused : (number : ℕ) → refusalOf words tickets ranks frame out ≡ some number → 3 ≤ number → number ≤ 11
+      → Answers words tickets ranks frame out (Answer.Refused number)
+      → NothingChanged words tickets ranks frame out
+      → Answered words tickets ranks frame out
   -- No test applies: the answer fits what the frame asks for.
-  answered : (answer : Answer) → refusalOf words tickets frame out ≡ none
+  answered : (answer : Answer) → refusalOf words tickets ranks frame out ≡ none
       → AnswerTo (requestIn frame) answer
-      → Answers words tickets frame out answer
-      → Answered words tickets frame out
+      → Answers words tickets ranks frame out answer
+      → Answered words tickets ranks frame out
 
--- Statement: demand 1, for every book, every table as the code has it, every frame and every output.
+-- Statement: demand 1, for every book, every table as the code has it, all ranks, every frame and every output.
 abbrev pub Demand1 : Type 0
-Demand1 = (words : Words) (tickets : Tickets) (frame out : Bytes) → TableFits tickets → Answered words tickets frame out
+Demand1 = (words : Words) (tickets : Tickets) (ranks : Ranks) (frame out : Bytes) → TableFits tickets → Answered words tickets ranks frame out
 
 -- Statement: every answer of a call fits its fields, so that no bits are lost.
 abbrev pub AnswersFit : Type 0
-AnswersFit = (words : Words) (tickets : Tickets) (frame out : Bytes) → TableFits tickets → answerFits (doneOf words tickets frame out .answer) ≡ true
+AnswersFit = (words : Words) (tickets : Tickets) (ranks : Ranks) (frame out : Bytes) → TableFits tickets → answerFits (doneOf words tickets ranks frame out .answer) ≡ true
 
 -- Statement: a call leaves a table as the code has it,
 abbrev pub TablesStay : Type 0
-TablesStay = (words : Words) (tickets : Tickets) (frame out : Bytes) → TableFits tickets → TableFits (callOf words tickets frame out .0 .tickets)
+TablesStay = (words : Words) (tickets : Tickets) (ranks : Ranks) (frame out : Bytes) → TableFits tickets → TableFits (callOf words tickets ranks frame out .0 .tickets)
 
 -- The team that a request is of.
 abbrev pub IsOf : ℕ → Request → Type 0
@@ -94,12 +95,12 @@ IsOf team (View other n words) = team ≡ other
 -- Statement: and every other team's ticket as it was.
 abbrev pub OthersKeepTickets : Type 0
 OthersKeepTickets =
-    (words : Words) (tickets : Tickets) (frame out : Bytes) (team : ℕ)
+    (words : Words) (tickets : Tickets) (ranks : Ranks) (frame out : Bytes) (team : ℕ)
     → (IsOf team (requestIn frame) → ⊥)
-    → ticketOf (callOf words tickets frame out .0 .tickets) team ≡ ticketOf tickets team
+    → ticketOf (callOf words tickets ranks frame out .0 .tickets) team ≡ ticketOf tickets team
 
 -- Statement: what is heard of a call, read from the number returned and the bytes written, is the answer of its definition.
 abbrev pub AnswersHeard : Type 0
 AnswersHeard =
     (shared : Shared) (frame out : Bytes) → TableFits (shared .tickets)
-    → answerHeard (heardOf shared (framed frame out)) ≡ some (doneOf (shared .book) (shared .tickets) frame out .answer)
+    → answerHeard (heardOf shared (framed frame out)) ≡ some (doneOf (shared .book) (shared .tickets) (shared .ranks) frame out .answer)

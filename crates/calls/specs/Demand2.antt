@@ -4,7 +4,7 @@ use mathlib.Core.Bool.{cond}
 use mathlib.Core.Option.{none}
 use lib.ListN.{length}
 use Rattle.words.specs.Words.{Words, isHeld, readOf, swapOf}
-use Rattle.legs.specs.Positions.{FixedRanksArePermutation, PositionsDiffer}
+use Rattle.legs.specs.Positions.{Ranks, FixedRanksArePermutation, PositionsDiffer}
 use Rattle.legs.specs.Reading.{LegsReadBack, OnlyLegsRead}
 use Rattle.tickets.specs.declared.Tickets.{Tickets}
 use Rattle.tickets.specs.declared.LookAnswer.the-variants.{Held, Value}
@@ -30,36 +30,36 @@ pub record ResultIs (result : Done) (words : Words) (tickets : Tickets) (answer 
   pub answered : result .answer ≡ answer
 
 -- What each request does to words and tickets, and what it answers.
-abbrev pub Does : Words → Tickets → Request → Done → Type 0
--- An edit opens its ticket and changes no word.
-Does words tickets (Open team edit) result = ResultIs result words (withTicket tickets team (openedTicket edit)) (Answer.Standing (targetCount edit))
+abbrev pub Does : Words → Tickets → Ranks → Request → Done → Type 0
+-- An edit opens its ticket, by the ranks in force, and changes no word.
+Does words tickets ranks (Open team edit) result = ResultIs result words (withTicket tickets team (openedTicket ranks edit)) (Answer.Standing (targetCount edit))
 -- A step is one conditional swap (Figure 7, line 5, 12 or 14: `swapTriedIn`), the one that the ticket tries; the word that it found settles the ticket and the answer. A view's claiming swap is one too (request 1): it "takes any value below 2^63 and else waits" (`views-take-any`).
-Does words tickets (Step team) result =
+Does words tickets ranks (Step team) result =
     let ticket = ticketOf tickets team in
     let tried = swapTried words ticket team in
     let swap = swapOf words (tried .word) (tried .expected) (tried .desired) in
     let after = settled ticket (swap .found) in
     ResultIs result (swap .words) (withTicket tickets team (after .ticket)) (Answer.Step (after .answer))
 -- A look is one read (Figure 8, line 2) and changes nothing: a mark is Held, and a value is told.
-Does words tickets (Look word) result =
+Does words tickets ranks (Look word) result =
     let found = readOf words word in
     ResultIs result words tickets (Answer.Look (cond (isHeld found) Held (Value found)))
 -- A view opens its ticket and changes no word.
-Does words tickets (View team n named) result = ResultIs result words (withTicket tickets team (openedView named)) (Answer.Standing (length named))
+Does words tickets ranks (View team n named) result = ResultIs result words (withTicket tickets team (openedView ranks named)) (Answer.Standing (length named))
 
 -- The call leaves the words and the tickets of what was done, and writes the answer's frame.
-pub record CallGives (words : Words) (tickets : Tickets) (frame out : Bytes) (result : Done) : Type 0 where
-  pub words-left : callOf words tickets frame out .1 ≡ result .words
-  pub tickets-left : callOf words tickets frame out .0 .tickets ≡ result .tickets
-  pub output : (callOf words tickets frame out .0 .written, callOf words tickets frame out .2) ≡ written out (answerFrame (result .answer))
+pub record CallGives (words : Words) (tickets : Tickets) (ranks : Ranks) (frame out : Bytes) (result : Done) : Type 0 where
+  pub words-left : callOf words tickets ranks frame out .1 ≡ result .words
+  pub tickets-left : callOf words tickets ranks frame out .0 .tickets ≡ result .tickets
+  pub output : (callOf words tickets ranks frame out .0 .written, callOf words tickets ranks frame out .2) ≡ written out (answerFrame (result .answer))
 
--- Statement: for every book, table and frame that is not refused, the frame's request does that, and so does the call.
+-- Statement: for every book, table, ranks and frame that is not refused, the frame's request does that, and so does the call.
 abbrev pub CallsDo : Type 0
 CallsDo =
-    (words : Words) (tickets : Tickets) (frame out : Bytes) (request : Request)
-    → refusalOf words tickets frame out ≡ none → requestIn frame ≡ request
-    → let result = doneOf words tickets frame out in
-    Does words tickets request result × CallGives words tickets frame out result
+    (words : Words) (tickets : Tickets) (ranks : Ranks) (frame out : Bytes) (request : Request)
+    → refusalOf words tickets ranks frame out ≡ none → requestIn frame ≡ request
+    → let result = doneOf words tickets ranks frame out in
+    Does words tickets ranks request result × CallGives words tickets ranks frame out result
 
 -- Statement: all of demand 2.
 pub record Demand2 : Type 0 where
@@ -69,7 +69,7 @@ pub record Demand2 : Type 0 where
   pub steps-swap-one : StepSwapsOneWord
   pub views-take-any : ViewsTakeAnyValue
   pub waiting-tells : WaitingTellsHolder
-  -- The ranks are a permutation, and so no two words share a position.
+  -- The fixed ranks are accepted, and under any ranks that are no two words share a position.
   pub ranks-permute : FixedRanksArePermutation
   pub positions-differ : PositionsDiffer
   -- A frame reads back as the request or the answer that was written.

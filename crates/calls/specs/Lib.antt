@@ -1,5 +1,6 @@
 pub mod Call
 pub mod Outcomes
+pub mod Loading
 pub mod Shelves
 pub mod Run
 pub mod Order

@@ -16,7 +16,7 @@ use Rattle.edits.specs.declared.Edit.{Edit}
 use Rattle.plain.specs.Plain.{Plain, freshPlain, wordOf, legsInBook, Sound}
 use Rattle.plain.specs.Editing.{succeeds, attempt, addsIn, strikesIn}
 use Rattle.calls.specs.Order.{claimOrder}
-use Rattle.calls.specs.Call.{bookLengthWrong, badlyMade}
+use Rattle.calls.specs.Call.{bookLengthWrong, ranksWrong, badlyMade}
 use Rattle.calls.specs.Shelves.{shelfOf, isFilled}
 use Rattle.calls.specs.Run.{Call, Admitted, Heard, Run, run}
 use Rattle.calls.specs.Order.{Verdict, granted, stale, Event, decided, looked, seen, reserved, filled, cameBack, wasFilled, Asked, anEdit, aView, countAsked, Decision, Noted, Last, wasGranted, wasStale, wasSeen, Ended, order, ended, notesOn, HeldBy}
@@ -119,10 +119,10 @@ sinceBack (event ∷ events) = cond (hasBack (event ∷ events)) (sinceBack even
 abbrev pub DecisionRight : Edit → Decision → Type 0
 DecisionRight edit decision = decision .verdict ≡ verdictOf (play (decision .before)) edit
 
--- A word that was named as the one that differed: that of the target after those claimed, whose plain word at the decision is not the quoted value.
+-- A word that was named as the one that differed: that of the target after those claimed, by the ranks at its Standing, whose plain word at the decision is not the quoted value.
 pub record Differed (edit : Edit) (ticket : Noted) (decision : Decision) (word : ℕ) : Type 0 where
-  pub named : word ≡ targetIn (claimOrder (anEdit edit)) (length (ticket .claimed)) .word
-  pub differs : wordOf (play (decision .before)) word ≡ targetIn (claimOrder (anEdit edit)) (length (ticket .claimed)) .quoted → ⊥
+  pub named : word ≡ targetIn (claimOrder (ticket .ranks) (anEdit edit)) (length (ticket .claimed)) .word
+  pub differs : wordOf (play (decision .before)) word ≡ targetIn (claimOrder (ticket .ranks) (anEdit edit)) (length (ticket .claimed)) .quoted → ⊥
 
 -- Stale repeats the word that Found named; where no Found came, nothing was claimed.
 abbrev pub Repeats : Option ℕ → ℕ → List ℕ → Type 0
@@ -261,16 +261,20 @@ pub record Linearizable (result : Run) : Type 0 where
       legsInBook (play (order (result .heard))) + grantedOf strikesIn (sinceBack (order (result .heard)))
       ≡ legsInBook (play (untilBack (order (result .heard)))) + grantedOf addsIn (sinceBack (order (result .heard)))
   -- A word that a ticket holds is its team's mark, so that no word too many is taken for held.
-  -- (This field and all that follow go beyond the papers.)
+  -- (This field and those that follow go beyond the papers, but for request 8's.)
   pub held-marked : (team word : ℕ) → HeldBy (result .heard) team word → readOf (result .end .book) word ≡ markOf team
   -- The plain book keeps its rules: all in range, from other than to, no number twice.
   pub plain-sound : Sound (play (order (result .heard)))
   -- The book stays whole and every team's ticket well made, so that refusals 1 and 7 never come.
   pub stays-whole : bookLengthWrong (result .end .book) ≡ false
   pub stays-well-made : (team : ℕ) → badlyMade (ticketOf (result .end .tickets) team) ≡ false
+  -- (Request 8) The ranks in force are those of the last load that went, and before one the fixed ones: "a refused load keeps the old ranks, and nothing else writes them".
+  -- Each of 0 to 31 occurs, so that 13 never comes to a frame.
+  pub ranks-heard : result .end .ranks ≡ notesOn (result .heard) .ranks
+  pub stays-ranked : ranksWrong (result .end .ranks) ≡ false
   -- A last answer's tries are the steps answered; a granted ticket's are 2n plus its waits.
   pub tries-add-up : Every TriesRight (ended (result .heard))
-  -- Every call was answered by an answer that fits its frame, no Standing came over a ticket and no step's answer without one.
+  -- Every frame was answered by an answer that fits it, no Standing came over a ticket and no step's answer without one, and no load, filling or coming back went over a ticket.
   pub in-turn : notesOn (result .heard) .outOfTurn ≡ 0
   -- A ticket stands in the table exactly where one is noted: where none stands, every ticket has had its last answer.
   pub noted-stand : (team : ℕ) → StandsAsNoted (hasTicket (ticketOf (result .end .tickets) team .phase)) (notesOn (result .heard) .tickets team)

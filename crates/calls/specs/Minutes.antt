@@ -6,6 +6,7 @@ use mathlib.Core.Bool.{true}
 use mathlib.Core.Option.{Option}
 use Rattle.words.specs.Tests.{allHold}
 use Rattle.words.specs.Words.{Words}
+use Rattle.legs.specs.Positions.{Ranks}
 use Rattle.legs.specs.Minutes.{anglesInRange}
 use Rattle.tickets.specs.declared.Tickets.{Tickets}
 use Rattle.edits.specs.declared.Edit.{Edit}
@@ -18,12 +19,12 @@ use Rattle.frames.specs.Fields.{headerOf}
 use Rattle.frames.specs.Writing.{requestFrame}
 use Rattle.frames.specs.Minutes.{MinutesEdit, roundedEdit, minutesOfEdit, minutesFrame, minutesEditFits}
 use Rattle.calls.specs.Call.{callOf}
-use Rattle.calls.specs.Run.{Call, framed, answerHeard, run}
+use Rattle.calls.specs.Run.{Call, framed, Heard, run}
 use Rattle.calls.specs.Order.{Notes, hearAnswer, notesOn}
 
--- Two frames can't be told apart by a call: it does the same with both, over every book, table and output, and every answer to the one is heard as it is heard to the other.
+-- Two frames can't be told apart by a call: it does the same with both, over every book, table, ranks and output, and every answer to the one is heard as it is heard to the other.
 pub record BehaveAlike (frame other : Bytes) : Type 0 where
-  pub called : (words : Words) (tickets : Tickets) (out : Bytes) → callOf words tickets frame out ≡ callOf words tickets other out
+  pub called : (words : Words) (tickets : Tickets) (ranks : Ranks) (out : Bytes) → callOf words tickets ranks frame out ≡ callOf words tickets ranks other out
   pub heard : (notes : Notes) (answer : Option Answer) → hearAnswer notes frame answer ≡ hearAnswer notes other answer
 
 -- Statement: a whole frame that asks for an edit, with angles in range as they are sent, behaves as the frame in hundredths that asks for the same edit.
@@ -57,12 +58,16 @@ abbrev pub otherOf : Twins → Call
 otherOf (alikeFrames frame other out alike) = framed other out
 otherOf (sameCall call) = call
 
+-- The answer to a call: the number that it returned, and its output.
+abbrev pub answerTo : Heard → ℕ × Bytes
+answerTo one = (one .returned, one .output)
+
 -- Statement: "placed like it in the order of whole edits": two lists that are alike call by call get the same answers, leave the same, and are noted alike, so that they have one order.
 abbrev pub AlikeInOrder : Type 0
 AlikeInOrder =
     (store : Words) (twins : List Twins)
     → let one = run store (map oneOf twins) in
     let other = run store (map otherOf twins) in
-    (map answerHeard (one .heard) ≡ map answerHeard (other .heard))
+    (map answerTo (one .heard) ≡ map answerTo (other .heard))
     × (one .end ≡ other .end)
     × (notesOn (one .heard) ≡ notesOn (other .heard))

@@ -16,7 +16,7 @@ use Rattle.tickets.specs.declared.LookAnswer.the-variants.{Value, Held}
 use Rattle.tickets.specs.declared.Target.{Target}
 use Rattle.tickets.specs.Tickets.{target}
 use Rattle.edits.specs.declared.Edit.{Edit}
-use Rattle.legs.specs.Positions.{positionOf}
+use Rattle.legs.specs.Positions.{Ranks, fixedRanks, positionBy}
 use Rattle.edits.specs.Edits.{listedTargets}
 use Rattle.edits.specs.Opened.{orderedBy, targetCount}
 use Rattle.frames.specs.Request.{Request, Open, Step, Look, View}
@@ -25,7 +25,7 @@ use Rattle.frames.specs.declared.Answer.the-variants as Answer
 use Rattle.frames.specs.Numbers.{Bytes}
 use Rattle.frames.specs.Requests.{requestIn}
 use Rattle.frames.specs.Answers.{valuesShown}
-use Rattle.calls.specs.Run.{Call, framed, filling, comingBack, Heard, answerHeard}
+use Rattle.calls.specs.Run.{Call, framed, loading, filling, comingBack, Heard, answerHeard}
 
 pub data Verdict : Type 0 where
   granted stale : Verdict
@@ -71,13 +71,13 @@ abbrev pub targetsAsked : Asked → List Target
 targetsAsked (anEdit edit) = listedTargets edit
 targetsAsked (aView words) = map (λ word. target word 0 0) words
 
--- "Targets are claimed by rising position": by the frame alone, whatever a ticket stores.
-abbrev pub claimOrder : Asked → List Target
-claimOrder asked = orderedBy positionOf (targetsAsked asked)
+-- "Targets are claimed by rising position": by the frame and the ranks alone, whatever a ticket stores.
+abbrev pub claimOrder : Ranks → Asked → List Target
+claimOrder ranks asked = orderedBy (positionBy ranks) (targetsAsked asked)
 
 -- Its words in that order, and how many targets it has.
-abbrev pub wordsAsked : Asked → List ℕ
-wordsAsked asked = map (λ target. target .word) (claimOrder asked)
+abbrev pub wordsAsked : Ranks → Asked → List ℕ
+wordsAsked ranks asked = map (λ target. target .word) (claimOrder ranks asked)
 
 abbrev pub countAsked : Asked → ℕ
 countAsked (anEdit edit) = targetCount edit
@@ -91,6 +91,8 @@ pub record Decision : Type 0 where
 -- What has been heard of a ticket since its Standing.
 pub record Noted : Type 0 where
   pub asked : Asked
+  -- the ranks in force at its Standing: a load that comes after its end changes nothing of it
+  pub ranks : Ranks
   -- the k of each Claimed k, and of each Put k and Returned k, the latest first
   pub claimed : List ℕ
   pub released : List ℕ
@@ -115,74 +117,79 @@ pub record Ended : Type 0 where
   pub ticket : Noted
   pub last : Last
 
--- What a bystander has written down: the order so far, each team's ticket, the tickets that ended, and how often an answer came out
+-- What a bystander has written down: the order so far, each team's ticket, the tickets that ended, the ranks in force, and how often an answer came out
 -- of turn: a Standing over a ticket still noted or with another number of targets, a step's answer where no ticket is noted or that its
--- ticket can't get, an answer that does not fit its frame, bytes that are no answer, a filling or a coming back that went while a ticket
+-- ticket can't get, an answer that does not fit its frame, bytes that are no answer, a load, a filling or a coming back that went while a ticket
 -- is noted, or a shelf that there is not or that was never filled.
 pub record Notes : Type 0 where
   pub order : List Event
   pub tickets : ℕ → Option Noted
   pub ended : List Ended
+  -- those of the last load that went, and before one the fixed ones
+  pub ranks : Ranks
   -- (An edit's ticket can't get Seen; a view can't get Found, Put, Granted or Stale, nor Seen before its last claim. An answer of the right kind
   -- at a wrong moment, as Put while an edit claims, is not counted: like Waiting while the word is free, demand 2's step rule forbids it.)
   pub outOfTurn : ℕ
 
-abbrev pub notes : List Event → (ℕ → Option Noted) → List Ended → ℕ → Notes
-notes order tickets ended outOfTurn = record { order = order; tickets = tickets; ended = ended; outOfTurn = outOfTurn }
+abbrev pub notes : List Event → (ℕ → Option Noted) → List Ended → Ranks → ℕ → Notes
+notes order tickets ended ranks outOfTurn = record { order = order; tickets = tickets; ended = ended; ranks = ranks; outOfTurn = outOfTurn }
 
 abbrev pub noNotes : Notes
-noNotes = notes [] (λ team. none) [] 0
+noNotes = notes [] (λ team. none) [] fixedRanks 0
 
 -- The tickets with another for one team.
 abbrev pub retold : (ℕ → Option Noted) → ℕ → Option Noted → ℕ → Option Noted
 retold tickets team ticket other = cond (eqb other team) ticket (tickets other)
 
--- One more event; one team's ticket noted anew; one team's ticket ended, and gone; one more answer out of turn.
+-- One more event; one team's ticket noted anew; one team's ticket ended, and gone; other ranks in force; one more answer out of turn.
 abbrev pub noteEvent : Notes → Event → Notes
-noteEvent n event = notes (n .order ++ (event ∷ [])) (n .tickets) (n .ended) (n .outOfTurn)
+noteEvent n event = notes (n .order ++ (event ∷ [])) (n .tickets) (n .ended) (n .ranks) (n .outOfTurn)
 
 -- A place that was reserved, filled.
 abbrev pub fillPlace : Notes → ℕ → Event → Notes
-fillPlace n at event = notes (set (n .order) at event) (n .tickets) (n .ended) (n .outOfTurn)
+fillPlace n at event = notes (set (n .order) at event) (n .tickets) (n .ended) (n .ranks) (n .outOfTurn)
 
 abbrev pub noteTicket : Notes → ℕ → Noted → Notes
-noteTicket n team ticket = notes (n .order) (retold (n .tickets) team (some ticket)) (n .ended) (n .outOfTurn)
+noteTicket n team ticket = notes (n .order) (retold (n .tickets) team (some ticket)) (n .ended) (n .ranks) (n .outOfTurn)
 
 abbrev pub noteEnd : Notes → ℕ → Ended → Notes
-noteEnd n team end = notes (n .order) (retold (n .tickets) team none) (n .ended ++ (end ∷ [])) (n .outOfTurn)
+noteEnd n team end = notes (n .order) (retold (n .tickets) team none) (n .ended ++ (end ∷ [])) (n .ranks) (n .outOfTurn)
+
+abbrev pub noteRanks : Notes → Ranks → Notes
+noteRanks n ranks = notes (n .order) (n .tickets) (n .ended) ranks (n .outOfTurn)
 
 abbrev pub noteOutOfTurn : Notes → Notes
-noteOutOfTurn n = notes (n .order) (n .tickets) (n .ended) (n .outOfTurn + 1)
+noteOutOfTurn n = notes (n .order) (n .tickets) (n .ended) (n .ranks) (n .outOfTurn + 1)
 
 -- A ticket noted: at Standing; with one more Claimed k; one more Put k or Returned k; one more Waiting; one more step; Found; one more decision; its place.
-abbrev pub noted : Asked → List ℕ → List ℕ → ℕ → ℕ → Option ℕ → List Decision → Option (List Event) → Noted
-noted asked claimed released steps waits found decisions place =
-    record { asked = asked; claimed = claimed; released = released; steps = steps; waits = waits; found = found; decisions = decisions; place = place }
+abbrev pub noted : Asked → Ranks → List ℕ → List ℕ → ℕ → ℕ → Option ℕ → List Decision → Option (List Event) → Noted
+noted asked ranks claimed released steps waits found decisions place =
+    record { asked = asked; ranks = ranks; claimed = claimed; released = released; steps = steps; waits = waits; found = found; decisions = decisions; place = place }
 
-abbrev pub atStanding : Asked → Noted
-atStanding asked = noted asked [] [] 0 0 none [] none
+abbrev pub atStanding : Ranks → Asked → Noted
+atStanding ranks asked = noted asked ranks [] [] 0 0 none [] none
 
 abbrev pub withClaimed : ℕ → Noted → Noted
-withClaimed k t = noted (t .asked) (k ∷ t .claimed) (t .released) (t .steps) (t .waits) (t .found) (t .decisions) (t .place)
+withClaimed k t = noted (t .asked) (t .ranks) (k ∷ t .claimed) (t .released) (t .steps) (t .waits) (t .found) (t .decisions) (t .place)
 
 abbrev pub withReleased : ℕ → Noted → Noted
-withReleased k t = noted (t .asked) (t .claimed) (k ∷ t .released) (t .steps) (t .waits) (t .found) (t .decisions) (t .place)
+withReleased k t = noted (t .asked) (t .ranks) (t .claimed) (k ∷ t .released) (t .steps) (t .waits) (t .found) (t .decisions) (t .place)
 
 abbrev pub withWait : Noted → Noted
-withWait t = noted (t .asked) (t .claimed) (t .released) (t .steps) (t .waits + 1) (t .found) (t .decisions) (t .place)
+withWait t = noted (t .asked) (t .ranks) (t .claimed) (t .released) (t .steps) (t .waits + 1) (t .found) (t .decisions) (t .place)
 
 abbrev pub withStep : Noted → Noted
-withStep t = noted (t .asked) (t .claimed) (t .released) (t .steps + 1) (t .waits) (t .found) (t .decisions) (t .place)
+withStep t = noted (t .asked) (t .ranks) (t .claimed) (t .released) (t .steps + 1) (t .waits) (t .found) (t .decisions) (t .place)
 
 abbrev pub withFound : ℕ → Noted → Noted
-withFound word t = noted (t .asked) (t .claimed) (t .released) (t .steps) (t .waits) (some word) (t .decisions) (t .place)
+withFound word t = noted (t .asked) (t .ranks) (t .claimed) (t .released) (t .steps) (t .waits) (some word) (t .decisions) (t .place)
 
 abbrev pub withDecision : Verdict → List Event → Noted → Noted
 withDecision verdict before t =
-    noted (t .asked) (t .claimed) (t .released) (t .steps) (t .waits) (t .found) (record { verdict = verdict; before = before } ∷ t .decisions) (t .place)
+    noted (t .asked) (t .ranks) (t .claimed) (t .released) (t .steps) (t .waits) (t .found) (record { verdict = verdict; before = before } ∷ t .decisions) (t .place)
 
 abbrev pub withPlace : List Event → Noted → Noted
-withPlace before t = noted (t .asked) (t .claimed) (t .released) (t .steps) (t .waits) (t .found) (t .decisions) (some before)
+withPlace before t = noted (t .asked) (t .ranks) (t .claimed) (t .released) (t .steps) (t .waits) (t .found) (t .decisions) (some before)
 
 abbrev pub endedBy : Noted → Last → Ended
 endedBy ticket last = record { ticket = ticket; last = last }
@@ -245,10 +252,10 @@ abbrev pub hearStep : Notes → ℕ → Option Noted → StepAnswer → Notes
 hearStep n team none answer = noteOutOfTurn n
 hearStep n team (some ticket) answer = hearStepAnswer n team (withStep ticket) answer
 
--- An edit or a view answered Standing, with the number of its targets, opens a ticket.
+-- An edit or a view answered Standing, with the number of its targets, opens a ticket under the ranks in force.
 abbrev pub hearStanding : Notes → ℕ → Option Noted → Asked → Notes
-hearStanding n team none asked = noteTicket n team (atStanding asked)
-hearStanding n team (some ticket) asked = noteOutOfTurn (noteTicket n team (atStanding asked))
+hearStanding n team none asked = noteTicket n team (atStanding (n .ranks) asked)
+hearStanding n team (some ticket) asked = noteOutOfTurn (noteTicket n team (atStanding (n .ranks) asked))
 
 abbrev pub hearOpened : Notes → ℕ → Asked → ℕ → Notes
 hearOpened n team asked targets = cond (eqb targets (countAsked asked)) (hearStanding n team (n .tickets team) asked) (noteOutOfTurn n)
@@ -289,6 +296,10 @@ notedBelow (suc n) tickets = elim (tickets n) [ none ↦ notedBelow n tickets | 
 abbrev pub hearAlone : Notes → Notes → Notes
 hearAlone n after = cond (notedBelow teamCount (n .tickets)) (noteOutOfTurn n) after
 
+-- A load went: its ranks are in force.
+abbrev pub hearLoaded : Notes → Ranks → Notes
+hearLoaded n ranks = hearAlone n (noteRanks n ranks)
+
 -- A shelf was filled: one of the three.
 abbrev pub hearFilled : Notes → ℕ → Notes
 hearFilled n shelf = hearAlone n (cond (ltb shelf shelfCount) (noteEvent n (filled shelf)) (noteOutOfTurn n))
@@ -300,6 +311,7 @@ hearBack n shelf = hearAlone n (cond (wasFilled shelf (n .order)) (noteEvent n (
 -- What was heard of a call. "Every refusal is passed over."
 abbrev pub hearCall : Notes → Call → Heard → Notes
 hearCall n (framed frame out) one = hearAnswer n frame (answerHeard one)
+hearCall n (loading ranks) one = cond (eqb (one .returned) 0) (hearLoaded n ranks) n
 hearCall n (filling shelf lent) one = cond (eqb (one .returned) 0) (hearFilled n shelf) n
 hearCall n (comingBack shelf lent) one = cond (eqb (one .returned) 0) (hearBack n shelf) n
 
@@ -330,7 +342,7 @@ holdsAmong ticket word k (first ∷ later) =
 
 abbrev pub holdsWord : Option Noted → ℕ → Bool
 holdsWord none word = false
-holdsWord (some ticket) word = holdsAmong ticket word 1 (wordsAsked (ticket .asked))
+holdsWord (some ticket) word = holdsAmong ticket word 1 (wordsAsked (ticket .ranks) (ticket .asked))
 
 unfoldable pub holds : List Heard → ℕ → ℕ → Bool
 holds heard team word = holdsWord (notesOn heard .tickets team) word

@@ -11,7 +11,7 @@ use Rattle.words.specs.Words.{Words, wordsInBook, shelfCount, wordsInStore}
 use Rattle.plain.specs.Plain.{legsInBook}
 use Rattle.plain.specs.Editing.{addsIn, strikesIn}
 use Rattle.calls.specs.Shelves.{shelfOf, withShelf}
-use Rattle.calls.specs.Run.{Call, framed, filling, comingBack, theStore, Admitted, Shared, Heard, heardOf, leftBy, runFrom, run}
+use Rattle.calls.specs.Run.{Call, framed, loading, filling, comingBack, theStore, Admitted, Shared, underRanks, Heard, heardOf, leftBy, runFrom, run}
 use Rattle.calls.specs.Order.{Event, decided, looked, seen, reserved, filled, cameBack, wasFilled}
 use Rattle.calls.specs.Linearizable.{play, grantedOf, hasBack, orderOf, plainAfter}
 
@@ -33,24 +33,26 @@ Went shared call = heardOf shared call .returned ≡ 0
 abbrev pub NotFilled : ℕ → Heard → Type 0
 NotFilled shelf one = one .call ≡ filling shelf theStore → one .returned ≢ 0
 
--- The state of the filling, with the store and the filled shelves of now.
+-- The state of the filling, with the ranks, the store and the filled shelves of now.
 abbrev pub returnedTo : (there here : Shared) → Shared
-returnedTo there here = record { book = there .book; tickets = there .tickets; store = here .store; filled = here .filled }
+returnedTo there here = record { book = there .book; tickets = there .tickets; ranks = here .ranks; store = here .store; filled = here .filled }
 
 -- A call that comes back to no shelf.
 abbrev pub ComesNotBack : Call → Type 0
 ComesNotBack (framed frame out) = Unit {0}
+ComesNotBack (loading ranks) = Unit {0}
 ComesNotBack (filling shelf lent) = Unit {0}
 ComesNotBack (comingBack shelf lent) = ⊥
 
--- Book and tickets are again those of the filling, and the shelves stay as they are now. So all later calls, fillings and comings back among them, are answered as from the
--- filling's state with these shelves, and leave the same; and as long as none comes back, they are answered as from the filling's own state.
+-- Book and tickets are again those of the filling, and the ranks and the shelves stay as they are now. So all later calls, loads, fillings and comings back among them, are
+-- answered as from the filling's state with these ranks and shelves, and leave the same; and as long as none comes back, they are answered as from the filling's own state "under
+-- the ranks now in force".
 pub record ReturnsTo (there here after : Shared) : Type 0 where
   pub state : after ≡ returnedTo there here
   pub alike : (later : List Call) → runFrom after later ≡ runFrom (returnedTo there here) later
-  pub alike-there : (later : List Call) → Every ComesNotBack later → runFrom after later .heard ≡ runFrom there later .heard
+  pub alike-there : (later : List Call) → Every ComesNotBack later → runFrom after later .heard ≡ runFrom (underRanks there (here .ranks)) later .heard
 
--- Statement: "Coming back to a shelf restores every word as kept. Later calls behave as in a run that ended when the shelf was filled …; other shelves remain."
+-- Statement: "Coming back to a shelf restores every word as kept. Later calls behave as in a run that ended when the shelf was filled, under the ranks now in force; other shelves remain."
 abbrev pub ComingBackReturns : Type 0
 ComingBackReturns =
     (store : Words) (before between : List Call) (shelf : ℕ)

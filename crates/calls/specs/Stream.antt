@@ -2,22 +2,24 @@
 use Prim.Native.Nat.{ℕ, zero, suc, _+_, _*_, _-_, _<_, _≤_}
 use mathlib.Core.Path.{_≡_}
 use mathlib.Core.Logic.{_⊎_}
-use mathlib.Core.List.{List, [], _++_}
+use mathlib.Core.List.{List, [], _∷_, _++_}
+use mathlib.Core.Option.{Option, none, some}
 use mathlib.Core.Bool.{cond}
 use lib.ListN.{length, take, drop}
 use lib.Dec.{eqb, ltb}
 use Rattle.words.specs.Tests.{Every}
 use Rattle.words.specs.Words.{Words, wordsInBook}
+use Rattle.legs.specs.Positions.{Ranks, isPermutation, Accepted}
 use Rattle.tickets.specs.declared.Tickets.{Tickets}
 use Rattle.frames.specs.Numbers.{Bytes, number16}
 use Rattle.frames.specs.Requests.{lengthField}
 use Rattle.frames.specs.Answers.{longestAnswer, written}
 use Rattle.calls.specs.declared.Stop.{Stop}
-use Rattle.calls.specs.declared.Stop.the-variants.{MoreInput, OutputFull, BadLength, NoBook}
+use Rattle.calls.specs.declared.Stop.the-variants.{MoreInput, OutputFull, BadLength, NoBook, NoRanks}
 use Rattle.calls.specs.declared.Next.{Next}
 use Rattle.calls.specs.declared.Next.the-variants.{Frame, End}
 use Rattle.calls.specs.declared.Streamed.{Streamed}
-use Rattle.calls.specs.Call.{callOf}
+use Rattle.calls.specs.Call.{bookLengthWrong, ranksWrong, Check, check, firstOf, callOf}
 use Rattle.calls.specs.Run.{Shared, fresh, onward, Run, runFrom, sharing}
 use Rattle.frames.specs.Fields.{longestFrame}
 use Rattle.calls.specs.Survey.{longestField, joined, allWritten, callsOn}
@@ -55,19 +57,41 @@ abbrev pub stoppedOr : {A : Type 0} → Next → (Stop → A) → (ℕ → A) �
 stoppedOr (End stop) stopped goOn = stopped stop
 stoppedOr (Frame size) stopped goOn = goOn size
 
--- From a place of the input and one of the output on, for at most so many frames: each is one call, on what is left of the output, with the book and the tickets that the last one left.
-unfoldable pub streamFrom : ℕ → Words → Tickets → Bytes → Bytes → ℕ → ℕ → Streamed × Words × Bytes
-streamFrom zero words tickets input out at filled = (streamed tickets at filled MoreInput, words, out)
-streamFrom (suc most) words tickets input out at filled =
+-- From a place of the input and one of the output on, for at most so many frames: each is one call, on what is left of the output, with the book and the tickets that the last one left, under the same ranks.
+unfoldable pub streamFrom : ℕ → Words → Tickets → Ranks → Bytes → Bytes → ℕ → ℕ → Streamed × Words × Bytes
+streamFrom zero words tickets ranks input out at filled = (streamed tickets at filled MoreInput, words, out)
+streamFrom (suc most) words tickets ranks input out at filled =
     stoppedOr (nextAt input at) (λ stop. (streamed tickets at filled stop, words, out)) (λ size.
-    let call = callOf words tickets (take size (drop at input)) (roomIn out filled) in
-    let later = streamFrom most (call .1) (call .0 .tickets) input (withRoom out filled (call .2)) (at + size) (filled + call .0 .written) in
+    let call = callOf words tickets ranks (take size (drop at input)) (roomIn out filled) in
+    let later = streamFrom most (call .1) (call .0 .tickets) ranks input (withRoom out filled (call .2)) (at + size) (filled + call .0 .written) in
     cond (ltb (length out - filled) longestAnswer) (streamed tickets at filled OutputFull, words, out) later)
 
--- The whole of an input. Every frame has at least two bytes, so that there are no more frames than bytes.
-unfoldable pub streamOf : Words → Tickets → Bytes → Bytes → Streamed × Words × Bytes
-streamOf words tickets input out =
-    cond (eqb (length words) wordsInBook) (streamFrom (length input) words tickets input out 0 0) (streamed tickets 0 0 NoBook, words, out)
+-- The whole of an input. Every frame has at least two bytes, so that there are no more frames than bytes. Over another book (1) and under ranks that are not accepted (13), in
+-- this order, nothing is consumed and nothing is written.
+unfoldable pub streamOf : Words → Tickets → Ranks → Bytes → Bytes → Streamed × Words × Bytes
+streamOf words tickets ranks input out =
+    cond (eqb (length words) wordsInBook)
+    (cond (isPermutation ranks) (streamFrom (length input) words tickets ranks input out 0 0) (streamed tickets 0 0 NoRanks, words, out))
+    (streamed tickets 0 0 NoBook, words, out)
+
+-- "A definition gives this paper's number": of the checks of a call, those that a stream makes before its first frame, and the number of a stop by one.
+abbrev pub streamChecks : Words → Ranks → List Check
+streamChecks words ranks = check 1 (bookLengthWrong words) ∷ check 13 (ranksWrong ranks) ∷ []
+
+abbrev pub stopNumber : Stop → Option ℕ
+stopNumber NoBook = some 1
+stopNumber NoRanks = some 13
+stopNumber MoreInput = none
+stopNumber OutputFull = none
+stopNumber BadLength = none
+
+-- Statement: a stream stops by the first of these that applies, and then consumes and writes nothing; else by none.
+abbrev pub StreamRefuses : Type 0
+StreamRefuses =
+    (words : Words) (tickets : Tickets) (ranks : Ranks) (input out : Bytes)
+    → let result = streamOf words tickets ranks input out in
+    (stopNumber (result .0 .stop) ≡ firstOf (streamChecks words ranks))
+    × ((number : ℕ) → firstOf (streamChecks words ranks) ≡ some number → result ≡ (streamed tickets 0 0 (result .0 .stop), words, out))
 
 -- A whole frame: its length field is the count of bytes after it, and at most 62.
 abbrev pub WholeFrame : Bytes → Type 0
@@ -77,12 +101,13 @@ WholeFrame frame = (length frame ≡ 2 + lengthField frame) × (lengthField fram
 abbrev pub StartsWhole : Bytes → Type 0
 StartsWhole rest = (2 ≤ length rest) × (lengthField rest ≤ longestField) × (2 + lengthField rest ≤ length rest)
 
--- When each stop is right, by what is left of the input and how many bytes of the output: nothing or the start of a frame; a whole frame, and no room for an answer; a length field above 62. A book of 4,096 words is never refused.
+-- When each stop is right, by what is left of the input and how many bytes of the output: nothing or the start of a frame; a whole frame, and no room for an answer; a length field above 62. A book of 4,096 words and accepted ranks are never refused.
 abbrev pub StopRight : Stop → Bytes → ℕ → Type 0
 StopRight MoreInput rest room = (length rest < 2) ⊎ ((lengthField rest ≤ longestField) × (length rest < 2 + lengthField rest))
 StopRight OutputFull rest room = StartsWhole rest × (room < longestAnswer)
 StopRight BadLength rest room = (2 ≤ length rest) × (longestField < lengthField rest)
 StopRight NoBook rest room = ⊥
+StopRight NoRanks rest room = ⊥
 
 -- The single calls on frames, one after another.
 abbrev pub runOn : Shared → List Bytes → Run
@@ -94,7 +119,7 @@ pub record StreamRight (shared : Shared) (input out : Bytes) (result : Streamed 
   pub all-whole : Every WholeFrame frames
   pub consumed : result .0 .consumed ≡ length (joined frames)
   pub parts : joined frames ++ drop (result .0 .consumed) input ≡ input
-  pub left : sharing (result .1) (result .0 .tickets) ≡ runOn shared frames .end
+  pub left : sharing (result .1) (result .0 .tickets) (shared .ranks) ≡ runOn shared frames .end
   pub written : result .0 .written ≡ length (allWritten (runOn shared frames .heard))
   pub output : result .2 ≡ allWritten (runOn shared frames .heard) ++ drop (result .0 .written) out
   pub same-length : length (result .2) ≡ length out
@@ -102,7 +127,10 @@ pub record StreamRight (shared : Shared) (input out : Bytes) (result : Streamed 
 
 -- Statement: a stream is the list of single calls.
 abbrev pub StreamIsRun : Type 0
-StreamIsRun = (words : Words) (tickets : Tickets) (input out : Bytes) → length words ≡ wordsInBook → StreamRight (sharing words tickets) input out (streamOf words tickets input out)
+StreamIsRun =
+    (words : Words) (tickets : Tickets) (ranks : Ranks) (input out : Bytes)
+    → length words ≡ wordsInBook → Accepted ranks
+    → StreamRight (sharing words tickets ranks) input out (streamOf words tickets ranks input out)
 
 -- Room for every answer: a frame has at least two bytes, an answer at most 52.
 abbrev pub Roomy : Bytes → Bytes → Type 0
@@ -111,9 +139,9 @@ Roomy input out = longestAnswer * length input ≤ 2 * length out
 -- Statement: with such room a stream never stops for want of it: it stops at a length field above 62, or where more input is needed and less than a frame of the longest kind is left.
 abbrev pub RoomSuffices : Type 0
 RoomSuffices =
-    (words : Words) (tickets : Tickets) (input out : Bytes)
-    → length words ≡ wordsInBook → Roomy input out
-    → let result = streamOf words tickets input out in
+    (words : Words) (tickets : Tickets) (ranks : Ranks) (input out : Bytes)
+    → length words ≡ wordsInBook → Accepted ranks → Roomy input out
+    → let result = streamOf words tickets ranks input out in
     (result .0 .stop ≡ BadLength) ⊎ ((result .0 .stop ≡ MoreInput) × (length (drop (result .0 .consumed) input) < longestFrame))
 
 -- What a stream wrote.
@@ -123,16 +151,17 @@ bytesOf result = take (result .0 .written) (result .2)
 -- Two streams, one after the other, are like one: in the bytes, the book, the tickets and the stop.
 pub record Alike (first second whole : Streamed × Words × Bytes) : Type 0 where
   pub bytes : bytesOf first ++ bytesOf second ≡ bytesOf whole
-  pub left : sharing (second .1) (second .0 .tickets) ≡ sharing (whole .1) (whole .0 .tickets)
+  pub book : second .1 ≡ whole .1
+  pub tickets : second .0 .tickets ≡ whole .0 .tickets
   pub consumed : first .0 .consumed + second .0 .consumed ≡ whole .0 .consumed
   pub stop : second .0 .stop ≡ whole .0 .stop
 
 -- Statement: input in pieces is answered alike, streaming one piece into any output and then what it left with the next, or both at once.
 abbrev pub PiecesSuffice : Type 0
 PiecesSuffice =
-    (words : Words) (tickets : Tickets) (piece next out later both : Bytes)
-    → length words ≡ wordsInBook
-    → let first = streamOf words tickets piece out in
+    (words : Words) (tickets : Tickets) (ranks : Ranks) (piece next out later both : Bytes)
+    → length words ≡ wordsInBook → Accepted ranks
+    → let first = streamOf words tickets ranks piece out in
     let rest = drop (first .0 .consumed) piece ++ next in
     Roomy rest later → Roomy (piece ++ next) both
-    → Alike first (streamOf (first .1) (first .0 .tickets) rest later) (streamOf words tickets (piece ++ next) both)
+    → Alike first (streamOf (first .1) (first .0 .tickets) ranks rest later) (streamOf words tickets ranks (piece ++ next) both)

@@ -5,6 +5,7 @@ use mathlib.Core.Bool.{Bool, true, false, cond, not}
 use lib.ListN.{length}
 use lib.Dec.{eqb, ltb}
 use Rattle.words.specs.Words.{Words, wordsInBook, teamCount}
+use Rattle.legs.specs.Positions.{Ranks, Accepted}
 use Rattle.tickets.specs.declared.Ticket.{Ticket}
 use Rattle.tickets.specs.declared.Tickets.{Tickets}
 use Rattle.tickets.specs.declared.Stepped.{Stepped}
@@ -79,26 +80,26 @@ unfoldable pub lookSettled : Words → Ticket → ℕ → Settled
 lookSettled words ticket word = settledWith ticket (lookAnswer words word)
 
 -- An edit of a team without a ticket: the ticket that it opens, or refusal 10 or 11.
-unfoldable pub openSettled : Ticket → EditRead → Settled
-openSettled ticket (EditRead.Is edit) = settledWith (openedTicket edit) (Answer.Standing (targetCount edit))
-openSettled ticket (EditRead.Refused number) = settledWith ticket (Answer.Refused number)
+unfoldable pub openSettled : Ticket → Ranks → EditRead → Settled
+openSettled ticket ranks (EditRead.Is edit) = settledWith (openedTicket ranks edit) (Answer.Standing (targetCount edit))
+openSettled ticket ranks (EditRead.Refused number) = settledWith ticket (Answer.Refused number)
 
 -- A view of a team without a ticket, likewise.
-abbrev pub readingSettled : Ticket → View → Reading → Settled
-readingSettled ticket view Reading.Is = settledWith (openedView (wordsNamed view)) (Answer.Standing (view .n))
-readingSettled ticket view (Reading.Refused number) = settledWith ticket (Answer.Refused number)
+abbrev pub readingSettled : Ticket → Ranks → View → Reading → Settled
+readingSettled ticket ranks view Reading.Is = settledWith (openedView ranks (wordsNamed view)) (Answer.Standing (view .n))
+readingSettled ticket ranks view (Reading.Refused number) = settledWith ticket (Answer.Refused number)
 
-unfoldable pub viewSettled : Ticket → ViewRead → Settled
-viewSettled ticket read = readingSettled ticket (read .view) (read .reading)
+unfoldable pub viewSettled : Ticket → Ranks → ViewRead → Settled
+viewSettled ticket ranks read = readingSettled ticket ranks (read .view) (read .reading)
 
 abbrev pub stepSettled : Stepped × Words → Settled × Words
 stepSettled result = (settledWith (result .0 .ticket) (Answer.Step (result .0 .answer)), result .1)
 
 -- One of the two, by the kind.
-unfoldable pub newSettled : Ticket → Bytes → ℕ → Settled
-newSettled ticket part kind =
-    cond (eqb kind viewKind) (viewSettled ticket (viewRead (number16 part 2) (viewWordsIn part)))
-    (openSettled ticket (readEdit kind part))
+unfoldable pub newSettled : Ticket → Ranks → Bytes → ℕ → Settled
+newSettled ticket ranks part kind =
+    cond (eqb kind viewKind) (viewSettled ticket ranks (viewRead (number16 part 2) (viewWordsIn part)))
+    (openSettled ticket ranks (readEdit kind part))
 
 -- What is known of an edit to be opened, which is of an edit's kind and has its fields.
 pub record EditFields (part : Bytes) (kind : ℕ) : Type 0 where
@@ -121,13 +122,13 @@ wellMadeFrom k zero tickets = true
 wellMadeFrom k (suc more) tickets = cond (slotWellMade (ticketOf tickets k)) (wellMadeFrom (k + 1) more tickets) false
 
 -- A team's frame: refusals 7, 8 and 9 by its ticket and kind, else a step, a view or an edit.
-unfoldable pub teamSettled : Words → Ticket → Bytes → ℕ → ℕ → Settled × Words
-teamSettled words ticket part kind team =
+unfoldable pub teamSettled : Words → Ticket → Ranks → Bytes → ℕ → ℕ → Settled × Words
+teamSettled words ticket ranks part kind team =
     cond (hasTicket (ticket .phase))
     (cond (wellMade ticket)
     (cond (eqb kind stepKind) (stepSettled (stepOf words ticket team)) (settledWith ticket (Answer.Refused 8), words))
     (settledWith ticket (Answer.Refused 7), words))
-    (cond (eqb kind stepKind) (settledWith ticket (Answer.Refused 9), words) (newSettled ticket part kind, words))
+    (cond (eqb kind stepKind) (settledWith ticket (Answer.Refused 9), words) (newSettled ticket ranks part kind, words))
 
 -- Whether a frame steps an edit's ticket that is known to be well made,
 abbrev pub stepsEdit : Ticket → Bool → ℕ → Bool
@@ -138,23 +139,23 @@ abbrev pub opensEdit : Ticket → ℕ → Bool
 opensEdit ticket kind = cond (isEditKind kind) (not (hasTicket (ticket .phase))) false
 
 -- What an aimed frame makes of the ticket in its slot and of the words, and its answer.
-unfoldable pub settledBy : Words → Ticket → Bytes → Aim → Settled × Words
-settledBy words ticket frame (Aim.Refused number) = (settledWith ticket (Answer.Refused number), words)
-settledBy words ticket frame Aim.Look = (lookSettled words ticket (number16 (partAfterKind frame) 0), words)
-settledBy words ticket frame (Aim.Team kind team) = teamSettled words ticket (partAfterKind frame) kind team
+unfoldable pub settledBy : Words → Ticket → Ranks → Bytes → Aim → Settled × Words
+settledBy words ticket ranks frame (Aim.Refused number) = (settledWith ticket (Answer.Refused number), words)
+settledBy words ticket ranks frame Aim.Look = (lookSettled words ticket (number16 (partAfterKind frame) 0), words)
+settledBy words ticket ranks frame (Aim.Team kind team) = teamSettled words ticket ranks (partAfterKind frame) kind team
 
 abbrev pub wayDone : Tickets → ℕ → Settled × Words → Done
 wayDone tickets slot result = done (result .0 .answer) (withTicket tickets slot (result .0 .ticket)) (result .1)
 
 -- The whole way.
-unfoldable pub wayOf : Words → Tickets → Bytes → Done
-wayOf words tickets frame =
+unfoldable pub wayOf : Words → Tickets → Ranks → Bytes → Done
+wayOf words tickets ranks frame =
     let slot = slotOf (aimOf frame) in
-    wayDone tickets slot (settledBy words (ticketOf tickets slot) frame (aimOf frame))
+    wayDone tickets slot (settledBy words (ticketOf tickets slot) ranks frame (aimOf frame))
 
--- Statement: where neither refusal 1 nor 2 applies, the way is what the call does.
+-- Statement: where none of refusals 1, 13 and 2 applies, the way is what the call does.
 abbrev pub WayIsCall : Type 0
 WayIsCall =
-    (words : Words) (tickets : Tickets) (frame out : Bytes)
-    → length words ≡ wordsInBook → longestAnswer ≤ length out
-    → doneOf words tickets frame out ≡ wayOf words tickets frame
+    (words : Words) (tickets : Tickets) (ranks : Ranks) (frame out : Bytes)
+    → length words ≡ wordsInBook → Accepted ranks → longestAnswer ≤ length out
+    → doneOf words tickets ranks frame out ≡ wayOf words tickets ranks frame

@@ -4,7 +4,7 @@ use frames::Answer;
 use tickets::Ticket;
 use tickets::Tickets;
 
-// What the call returns: the bytes written (1 or 2 for those refusals), and the tickets.
+// What the call returns: the bytes written (1, 13 or 2 for those refusals), and the tickets.
 pub struct Reply {
     pub written: usize,
     pub tickets: Tickets,
@@ -30,12 +30,13 @@ pub struct Settled {
 }
 
 // Why a stream stopped: the rest is no whole frame yet; there is no room for an answer; a length field is too
-// large; the book has another length.
+// large; the book has another length; the ranks are not each of 0 to 31.
 pub enum Stop {
     MoreInput,
     OutputFull,
     BadLength,
     NoBook,
+    NoRanks,
 }
 
 pub struct Streamed {

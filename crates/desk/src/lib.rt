@@ -238,7 +238,8 @@ fn call_on(book: &mut [u64], tickets: Tickets, out: &mut [u8], value: u8, frame:
     copy(book, &mut before);
     fill(out, value);
     tell_asked(out, value, frame);
-    let reply = book::call(book, tickets, frame, out);
+    let ranks = legs::fixed_ranks();
+    let reply = book::call(book, tickets, &ranks, frame, out);
     let after = reply.tickets;
     tell_given(reply.written, out);
     tell_words(&before, book);

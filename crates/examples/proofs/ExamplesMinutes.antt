@@ -7,6 +7,7 @@ use lib.ListN.{replicate}
 use lib.IntN.{pos, negsuc}
 use Rattle.words.specs.Words.{Words, wordsInBook}
 use Rattle.legs.specs.declared.Measure.{Measure}
+use Rattle.legs.specs.Positions.{fixedRanks}
 use Rattle.legs.specs.Minutes.{Minutes}
 use Rattle.tickets.specs.declared.Tickets.{Tickets}
 use Rattle.tickets.specs.Tickets.{freshTickets, withTicket}
@@ -118,7 +119,7 @@ plumb-book = refl
 
 -- Refused over an empty book and these tickets; over none.
 abbrev refusalsOver : Tickets → List Bytes → List (Option ℕ)
-refusalsOver tickets frames = map (λ frame. refusalOf (replicate wordsInBook 0) tickets frame (replicate longestAnswer 0)) frames
+refusalsOver tickets frames = map (λ frame. refusalOf (replicate wordsInBook 0) tickets fixedRanks frame (replicate longestAnswer 0)) frames
 
 abbrev refusals : List Bytes → List (Option ℕ)
 refusals frames = refusalsOver freshTickets frames
@@ -144,7 +145,7 @@ angles-refused = refl
 
 -- Over a ticket, 8 goes before an angle.
 angles-over-ticket :
-    refusalsOver (withTicket freshTickets 0 (openedTicket (firstLeg 1 0 thatMeasure))) (map (λ m. minutesFrame 0 (adding m)) (
+    refusalsOver (withTicket freshTickets 0 (openedTicket fixedRanks (firstLeg 1 0 thatMeasure))) (map (λ m. minutesFrame 0 (adding m)) (
     inMinutes 10 60 0 0 0
     ∷ inMinutes 10 0 0 0 0
     ∷ []

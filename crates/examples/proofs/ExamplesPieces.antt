@@ -2,6 +2,7 @@
 use mathlib.Core.Path.{_≡_, refl}
 use mathlib.Core.List.{List, [], _∷_, _++_, map}
 use lib.ListN.{take, drop, replicate}
+use Rattle.legs.specs.Positions.{fixedRanks}
 use Rattle.tickets.specs.declared.StepAnswer.the-variants.{Claimed}
 use Rattle.frames.specs.Request.{Open, Step}
 use Rattle.frames.specs.declared.Answer.the-variants.{Standing, Refused}
@@ -29,7 +30,7 @@ abbrev bothAnswers : Bytes
 bothAnswers = answerFrame (Standing 5) ++ answerFrame (Answer.Step (Claimed 1))
 
 abbrev writtenFor : List Bytes → Bytes
-writtenFor pieces = piecesFrom (beginning (replicate 300 7)) pieces
+writtenFor pieces = piecesFrom (beginning fixedRanks (replicate 300 7)) pieces
 
 at-once : writtenFor ((opening ++ step) ∷ []) ≡ bothAnswers
 unfolding everyPiece

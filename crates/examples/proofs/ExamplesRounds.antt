@@ -20,7 +20,7 @@ use Rattle.progress.proofs.Existing.{there-is-a-round}
 use Rattle.progress.proofs.Done.{every-ticket-gets-done}
 
 -- The teams below n that have a ticket.
-abbrev standingBelow : ℕ → Tickets → List ℕ
+abbrev pub standingBelow : ℕ → Tickets → List ℕ
 standingBelow zero tickets = []
 standingBelow (suc n) tickets = cond (hasTicket (ticketOf tickets n .phase)) (n ∷ standingBelow n tickets) (standingBelow n tickets)
 
@@ -74,7 +74,7 @@ unfolding everyRun targetsBelow areBytes
 two-done = every-ticket-gets-done [] two (refl, (refl, tt)) rounds two-rounds (omega (arith, two-targets))
 
 -- So many rounds, each of them that of `turnsBelow`.
-abbrev playedOn : ℕ → Shared → Shared
+abbrev pub playedOn : ℕ → Shared → Shared
 playedOn zero shared = shared
 playedOn (suc many) shared = playedOn many (afterRound shared (turnsBelow teamCount (shared .tickets)))
 

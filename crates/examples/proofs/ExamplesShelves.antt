@@ -7,6 +7,7 @@ use mathlib.Core.List.{List, [], _∷_, _++_, map}
 use mathlib.Core.Option.{none, some}
 use lib.ListN.{getD, take, replicate}
 use Rattle.words.specs.Words.{Words, wordsInBook, wordsInStore}
+use Rattle.legs.specs.Positions.{fixedRanks}
 use Rattle.tickets.specs.declared.Tickets.{Tickets}
 use Rattle.tickets.specs.declared.StepAnswer.{StepAnswer}
 use Rattle.tickets.specs.declared.StepAnswer.the-variants.{Claimed, Put, Granted}
@@ -121,7 +122,7 @@ abbrev zeros : Words
 zeros = replicate wordsInBook 0
 
 abbrev standing : Tickets
-standing = withTicket freshTickets 15 (openedTicket first)
+standing = withTicket freshTickets 15 (openedTicket fixedRanks first)
 
 abbrev onlyFirst : Filled
 onlyFirst = true ∷ false ∷ false ∷ []
@@ -169,7 +170,7 @@ backHeard = record { call = comingBack 0 theStore; returned = 0; output = [] }
 -- Runs of wrong programs, for which demand 3 does not hold: shelf 0 of a fresh book is filled, and this store and these flags are left.
 abbrev left : Words → Filled → Run
 left kept flags = record {
-  end = record { book = replicate wordsInBook 0; tickets = freshTickets; store = kept; filled = flags };
+  end = record { book = replicate wordsInBook 0; tickets = freshTickets; ranks = fixedRanks; store = kept; filled = flags };
   heard = fillHeard ∷ [];
 }
 
@@ -189,7 +190,7 @@ unfolding everyShelf
 back-unfilled right = let counted : _≡_ {A = ℕ} 1 0 = right .in-turn in omega arith
 
 -- One that fills a shelf of a fresh book and comes back to another book.
-back-elsewhere : Linearizable (record { end = record { book = 7 ∷ replicate 4095 0; tickets = freshTickets; store = replicate wordsInStore 0; filled = onlyFirst }; heard = fillHeard ∷ backHeard ∷ [] }) → ⊥
+back-elsewhere : Linearizable (record { end = record { book = 7 ∷ replicate 4095 0; tickets = freshTickets; ranks = fixedRanks; store = replicate wordsInStore 0; filled = onlyFirst }; heard = fillHeard ∷ backHeard ∷ [] }) → ⊥
 unfolding everyShelf
 back-elsewhere right = let shown : _≡_ {A = ℕ} 7 0 = right .words-agree 0 (omega arith) (λ team held. false≢true held) in omega arith
 

@@ -13,3 +13,5 @@ mod WaitingAllowed
 mod ExamplesHeard
 mod ExamplesShelves
 mod ExamplesMinutes
+mod ExamplesRanks
+mod RefutedRanks

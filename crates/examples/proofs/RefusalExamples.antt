@@ -3,6 +3,7 @@ use mathlib.Core.Path.{_≡_, refl}
 use mathlib.Core.List.{[], _∷_, _++_, map}
 use mathlib.Core.Option.{none, some}
 use lib.ListN.{replicate}
+use Rattle.legs.specs.Positions.{fixedRanks}
 use Rattle.tickets.specs.Tickets.{freshTickets, withTicket}
 use Rattle.edits.specs.Opened.{openedTicket}
 use Rattle.frames.specs.Request.{Step, View}
@@ -16,12 +17,12 @@ use Rattle.calls.proofs.RefusalOrder.{book, out, sevenTargets, repeats}
 
 -- 1 to 6, in checking order: each call breaks the next rule too.
 refusals-1-to-6 :
-    refusalOf (replicate 4095 0) freshTickets [] []
-    ∷ refusalOf book freshTickets [] (replicate 51 7)
-    ∷ refusalOf book freshTickets (4 ∷ 0 ∷ 8 ∷ 0 ∷ 0 ∷ []) out
-    ∷ refusalOf book freshTickets (5 ∷ 0 ∷ 8 ∷ 0 ∷ 16 ∷ 0 ∷ 0 ∷ []) out
-    ∷ refusalOf book freshTickets (5 ∷ 0 ∷ 5 ∷ 0 ∷ 16 ∷ 0 ∷ 0 ∷ []) out
-    ∷ refusalOf book freshTickets (requestFrame (Step 16)) out
+    refusalOf (replicate 4095 0) freshTickets fixedRanks [] []
+    ∷ refusalOf book freshTickets fixedRanks [] (replicate 51 7)
+    ∷ refusalOf book freshTickets fixedRanks (4 ∷ 0 ∷ 8 ∷ 0 ∷ 0 ∷ []) out
+    ∷ refusalOf book freshTickets fixedRanks (5 ∷ 0 ∷ 8 ∷ 0 ∷ 16 ∷ 0 ∷ 0 ∷ []) out
+    ∷ refusalOf book freshTickets fixedRanks (5 ∷ 0 ∷ 5 ∷ 0 ∷ 16 ∷ 0 ∷ 0 ∷ []) out
+    ∷ refusalOf book freshTickets fixedRanks (requestFrame (Step 16)) out
     ∷ []
     ≡ map some (1 ∷ 2 ∷ 3 ∷ 4 ∷ 5 ∷ 6 ∷ [])
 unfolding everything
@@ -29,35 +30,35 @@ refusals-1-to-6 = refl
 
 -- A view, likewise: of no word, of seven words, and of half a word (5); of team 16; over a damaged ticket, and over another; an n that is not the count of words, before a word above 4,095 and a word twice; that word alone; a word twice; and no refusal.
 views-refused :
-    refusalOf book freshTickets (requestFrame (View 16 0 [])) out
-    ∷ refusalOf book freshTickets (requestFrame (View 16 7 (1 ∷ 2 ∷ 3 ∷ 4 ∷ 5 ∷ 6 ∷ 7 ∷ []))) out
-    ∷ refusalOf book freshTickets (9 ∷ 0 ∷ 7 ∷ 0 ∷ 16 ∷ 0 ∷ 1 ∷ 0 ∷ 3 ∷ 0 ∷ 4 ∷ []) out
-    ∷ refusalOf book freshTickets (requestFrame (View 16 1 (3 ∷ []))) out
-    ∷ refusalOf book (withTicket freshTickets 0 sevenTargets) (requestFrame (View 0 2 (4096 ∷ []))) out
-    ∷ refusalOf book (withTicket freshTickets 0 (openedTicket repeats)) (requestFrame (View 0 2 (4096 ∷ []))) out
-    ∷ refusalOf book freshTickets (requestFrame (View 0 1 (3 ∷ 3 ∷ []))) out
-    ∷ refusalOf book freshTickets (requestFrame (View 0 3 (4096 ∷ 3 ∷ 3 ∷ []))) out
-    ∷ refusalOf book freshTickets (requestFrame (View 0 2 (3 ∷ 3 ∷ []))) out
-    ∷ refusalOf book freshTickets (requestFrame (View 15 6 (4095 ∷ 0 ∷ 3 ∷ 2 ∷ 63 ∷ 64 ∷ []))) out
+    refusalOf book freshTickets fixedRanks (requestFrame (View 16 0 [])) out
+    ∷ refusalOf book freshTickets fixedRanks (requestFrame (View 16 7 (1 ∷ 2 ∷ 3 ∷ 4 ∷ 5 ∷ 6 ∷ 7 ∷ []))) out
+    ∷ refusalOf book freshTickets fixedRanks (9 ∷ 0 ∷ 7 ∷ 0 ∷ 16 ∷ 0 ∷ 1 ∷ 0 ∷ 3 ∷ 0 ∷ 4 ∷ []) out
+    ∷ refusalOf book freshTickets fixedRanks (requestFrame (View 16 1 (3 ∷ []))) out
+    ∷ refusalOf book (withTicket freshTickets 0 sevenTargets) fixedRanks (requestFrame (View 0 2 (4096 ∷ []))) out
+    ∷ refusalOf book (withTicket freshTickets 0 (openedTicket fixedRanks repeats)) fixedRanks (requestFrame (View 0 2 (4096 ∷ []))) out
+    ∷ refusalOf book freshTickets fixedRanks (requestFrame (View 0 1 (3 ∷ 3 ∷ []))) out
+    ∷ refusalOf book freshTickets fixedRanks (requestFrame (View 0 3 (4096 ∷ 3 ∷ 3 ∷ []))) out
+    ∷ refusalOf book freshTickets fixedRanks (requestFrame (View 0 2 (3 ∷ 3 ∷ []))) out
+    ∷ refusalOf book freshTickets fixedRanks (requestFrame (View 15 6 (4095 ∷ 0 ∷ 3 ∷ 2 ∷ 63 ∷ 64 ∷ []))) out
     ∷ []
     ≡ map some (5 ∷ 5 ∷ 5 ∷ 6 ∷ 7 ∷ 8 ∷ 10 ∷ 10 ∷ 11 ∷ []) ++ (none ∷ [])
 unfolding everything
 views-refused = refl
 
--- A refusal writes six bytes, and the rest of the output stays; 1 and 2 return their number and write nothing.
-refused-bytes : callOf book freshTickets (requestFrame (Step 1)) out .2 ≡ answerFrame (Refused 9) ++ replicate 46 7
+-- A refusal writes six bytes, and the rest of the output stays; 1, 13 and 2 return their number and write nothing.
+refused-bytes : callOf book freshTickets fixedRanks (requestFrame (Step 1)) out .2 ≡ answerFrame (Refused 9) ++ replicate 46 7
 unfolding everything
 refused-bytes = refl
 
-no-book : callOf [] freshTickets [] out ≡ (record { written = 1; tickets = freshTickets }, [], out)
+no-book : callOf [] freshTickets fixedRanks [] out ≡ (record { written = 1; tickets = freshTickets }, [], out)
 unfolding everything
 no-book = refl
 
-short-output : callOf book freshTickets (requestFrame (Step 1)) (replicate 51 7) .2 ≡ replicate 51 7
+short-output : callOf book freshTickets fixedRanks (requestFrame (Step 1)) (replicate 51 7) .2 ≡ replicate 51 7
 unfolding everything
 short-output = refl
 
-short-returns : callOf book freshTickets (requestFrame (Step 1)) (replicate 51 7) .0 .written ≡ 2
+short-returns : callOf book freshTickets fixedRanks (requestFrame (Step 1)) (replicate 51 7) .0 .written ≡ 2
 unfolding everything
 short-returns = refl
 

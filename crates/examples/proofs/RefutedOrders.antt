@@ -18,6 +18,7 @@ use Rattle.tickets.specs.Tickets.{freshTickets, withTicket}
 use Rattle.tickets.specs.Steps.{advanced}
 use Rattle.edits.specs.declared.Edit.{Edit}
 use Rattle.edits.specs.declared.Edit.the-variants.{Add}
+use Rattle.legs.specs.Positions.{fixedRanks}
 use Rattle.edits.specs.Opened.{openedTicket}
 use Rattle.frames.specs.declared.Answer.the-variants as Answer
 use Rattle.frames.specs.Request.{Open, Step, Look, View}
@@ -30,7 +31,7 @@ use Rattle.examples.proofs.OneTeam.{notedBy, whoever}
 
 -- A run: the book and tickets that it leaves, and what was heard.
 abbrev pub running : Words → Tickets → List Heard → Run
-running book tickets heard = record { end = sharing book tickets; heard = heard }
+running book tickets heard = record { end = sharing book tickets fixedRanks; heard = heard }
 
 abbrev pub freshBook : Words
 freshBook = replicate wordsInBook 0
@@ -48,7 +49,7 @@ miscounted = firstLeg 1 1 thatMeasure
 
 -- The table in which team 0's edit stands, in a phase.
 abbrev pub standing : Edit → Phase → ℕ → Tickets
-standing edit phase claimed = withTicket freshTickets 0 (advanced (openedTicket edit) phase claimed 0)
+standing edit phase claimed = withTicket freshTickets 0 (advanced (openedTicket fixedRanks edit) phase claimed 0)
 
 -- granted-succeed: one always Stale, though the add succeeds.
 abbrev pub verdictNumber : Verdict → ℕ

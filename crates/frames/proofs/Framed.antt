@@ -1,4 +1,4 @@
--- An answer's frame is 4 to 52 bytes long, and its length field is right.
+-- An answer's frame is 4 to 52 bytes long, an even number of them, and its length field is right.
 use Prim.Native.Nat.{ℕ, _+_, _/_, _%_, _≤_}
 use mathlib.Core.Path.{_≡_, refl, ap}
 use mathlib.Core.List.{List, [], _∷_, _++_}
@@ -76,6 +76,25 @@ fields-bytes (Refused number) = with16 number [] no-bytes
 pub answer-frames-sound : AnswerFramesSound
 unfolding answerFrame
 answer-frames-sound answer = frame-sound (answerKind answer) (answerFields answer) (few-fields answer) (fields-bytes answer)
+
+-- It has an even number of bytes.
+even-fields : (answer : Answer) → length (answerFields answer) % 2 ≡ 0
+even-fields (Standing n) = refl
+even-fields (Step (Claimed many)) = refl
+even-fields (Step (Waiting word team)) = refl
+even-fields (Step (Found word)) = refl
+even-fields (Step (Put many)) = refl
+even-fields (Step (Returned many)) = refl
+even-fields (Step (Granted tries)) = refl
+even-fields (Step (Stale word tries)) = refl
+even-fields (Step (Seen values)) = omega (arith, length-fields64 (valuesShown values))
+even-fields (Look (Value value)) = refl
+even-fields (Look Held) = refl
+even-fields (Refused number) = refl
+
+pub answer-frames-even : (answer : Answer) → length (answerFrame answer) % 2 ≡ 0
+unfolding answerFrame
+answer-frames-even answer = omega (arith, even-fields answer)
 
 -- What is written of an answer is no longer than the longest.
 pub fitted : (count : ℕ) (last out : Bytes) (answer : Answer) → (count, last) ≡ written out (answerFrame answer) → ((count, last) ≡ written out (answerFrame answer)) × (count ≤ longestAnswer)

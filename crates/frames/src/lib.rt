@@ -168,8 +168,10 @@ impl Kind {
 pub struct Refusal {}
 
 impl Refusal {
-    // These two are returned, and written nowhere.
+    // These three are returned, and written nowhere. The ranks are tested after the book.
     pub const BOOK: usize = 1;
+
+    pub const RANKS: usize = 13;
 
     pub const OUTPUT: usize = 2;
 

@@ -4,6 +4,7 @@ use mathlib.Core.Path.{_≡_, refl}
 use mathlib.Core.List.{[], _∷_, map}
 use mathlib.Core.Bool.{true, false}
 use lib.IntN.{ℤ, pos, negsuc}
+use lib.ListN.{drop}
 use Rattle.words.specs.Tests.{allHold}
 use Rattle.words.specs.Words.{measureWord}
 use Rattle.legs.specs.declared.Leg.{Leg}
@@ -11,7 +12,7 @@ use Rattle.legs.specs.declared.Reading.{Reading}
 use Rattle.legs.specs.declared.Reading.the-variants.{NoLeg, Is}
 use Rattle.legs.specs.Legs.{clinoOffset, isPlumb, placeOf, measureOf, placeInRange, measureInRange}
 use Rattle.legs.specs.Reading.{isPlace, isMeasure, readingOf}
-use Rattle.legs.specs.Positions.{positionOf}
+use Rattle.legs.specs.Positions.{Ranks, fixedRanks, positionBy, positionOf, isPermutation}
 use Rattle.legs.specs.Minutes.{hundredthsOf, signedBy, compassAngleInRange, clinoAngleInRange, rounded}
 
 abbrev leg : ℕ → ℕ → ℕ → ℕ → ℕ → ℤ → Leg
@@ -70,12 +71,27 @@ example-4 = refl
 
 -- Word 50 has position 0, word 0 has 6.
 example-8 : positionOf 50 ≡ 0
-unfolding positionOf
+unfolding positionBy
 example-8 = refl
 
 example-9 : positionOf 0 ≡ 6
-unfolding positionOf
+unfolding positionBy
 example-9 = refl
+
+-- The ranks turned round: passage 0 has rank 31, passage 31 rank 0. Words 0 and 1 then stand last of the passages' words, words 62 and 63 first, and a leg's word at its own
+-- number as before.
+abbrev pub turned : Ranks
+turned =
+    31 ∷ 30 ∷ 29 ∷ 28 ∷ 27 ∷ 26 ∷ 25 ∷ 24 ∷ 23 ∷ 22 ∷ 21 ∷ 20 ∷ 19 ∷ 18 ∷ 17 ∷ 16 ∷ 15 ∷ 14 ∷ 13 ∷ 12 ∷ 11 ∷ 10 ∷ 9 ∷ 8 ∷ 7 ∷ 6 ∷ 5 ∷ 4 ∷ 3 ∷ 2 ∷ 1 ∷ 0 ∷ []
+
+turned-positions : map (positionBy turned) (0 ∷ 1 ∷ 62 ∷ 63 ∷ 64 ∷ []) ≡ 62 ∷ 63 ∷ 0 ∷ 1 ∷ 64 ∷ []
+unfolding positionBy
+turned-positions = refl
+
+-- They are accepted; no ranks, 31 of them, 33 of them, and 32 with one twice are not.
+accepted-or-not : map isPermutation (turned ∷ [] ∷ drop 1 turned ∷ (0 ∷ turned) ∷ (31 ∷ drop 1 fixedRanks) ∷ []) ≡ true ∷ false ∷ false ∷ false ∷ false ∷ []
+unfolding isPermutation allHold
+accepted-or-not = refl
 
 -- The same two words, read.
 that-leg-read : readingOf 8388673 76022100792200 ≡ Is thatLeg

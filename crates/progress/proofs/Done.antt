@@ -8,7 +8,7 @@ use native.Mathlib.Omega.{arith}
 use lib.ListN.{length}
 use Rattle.words.specs.Tests.{Every}
 use Rattle.words.specs.Words.{Words, wordsInBook, teamCount}
-use Rattle.legs.specs.Positions.{positionOf}
+use Rattle.legs.specs.Positions.{Ranks, positionBy, Accepted}
 use Rattle.tickets.specs.declared.Ticket.{Ticket}
 use Rattle.tickets.specs.Tickets.{ticketOf, targetsIn, wordsIn, hasTicket}
 use Rattle.tickets.specs.Invariant.{Invariant}
@@ -19,34 +19,47 @@ use Rattle.edits.proofs.Views.{view-targets-rise}
 use Rattle.calls.specs.Run.{Call, Admitted, Shared, run}
 use Rattle.calls.specs.Order.{Asked, anEdit, aView, wordsAsked, Noted, notesOn}
 use Rattle.calls.specs.Linearizable.{heardOn}
-use Rattle.calls.proofs.Tied.{Tied, KnownAs}
+use Rattle.calls.proofs.Tied.{Tied, Under, KnownAs}
 use Rattle.calls.proofs.Demand3.{run-table, run-good}
 use Rattle.progress.specs.Rounds.{EveryTicketGetsDone, AllRise}
 use Rattle.progress.proofs.Measure.{rises-alike}
 use Rattle.progress.proofs.Ending.{Steady, all-get-done}
 
--- A ticket claims by rising position, whatever it was opened for.
-rise-as : (asked : Asked) (ticket : Ticket) (noted : Noted) → wordsIn ticket ≡ wordsAsked asked → KnownAs asked ticket noted → RisesStrictly positionOf (targetsIn ticket)
-rise-as (anEdit edit) ticket noted same known = subst (RisesStrictly positionOf) (sym (known .targets)) (stored-targets-rise edit (known .fine .allowed))
-rise-as (aView words) ticket noted same known = rises-alike positionOf (viewTargets words) (targetsIn ticket) same (view-targets-rise words (known .fine))
+-- A ticket claims by rising position under the ranks of its Standing, whatever it was opened for.
+rise-as : (asked : Asked) (ticket : Ticket) (noted : Noted) → Accepted (noted .ranks) → wordsIn ticket ≡ wordsAsked (noted .ranks) asked → KnownAs asked ticket noted
+    → RisesStrictly (positionBy (noted .ranks)) (targetsIn ticket)
+rise-as (anEdit edit) ticket noted accepted same known =
+    subst (RisesStrictly (positionBy (noted .ranks))) (sym (known .targets)) (stored-targets-rise (noted .ranks) accepted edit (known .fine .allowed))
+rise-as (aView words) ticket noted accepted same known =
+    rises-alike (positionBy (noted .ranks)) (viewTargets (noted .ranks) words) (targetsIn ticket) same (view-targets-rise (noted .ranks) accepted words (known .fine))
 
-rise-of : (ticket : Ticket) (note : Option Noted) → Tied ticket note → hasTicket (ticket .phase) ≡ true → RisesStrictly positionOf (targetsIn ticket)
-rise-of ticket none absent stands = absurd (false≢true (sym (ap hasTicket absent) ∙ stands))
-rise-of ticket (some noted) known stands = rise-as (noted .asked) ticket noted (known .words) (known .rest)
+-- Those are the ranks in force: a load goes only while no ticket stands. So one position function orders the targets of all.
+rise-of : (ranks : Ranks) → Accepted ranks → (ticket : Ticket) (note : Option Noted) → Tied ticket note → Under ranks note → hasTicket (ticket .phase) ≡ true
+    → RisesStrictly (positionBy ranks) (targetsIn ticket)
+rise-of ranks accepted ticket none absent under stands = absurd (false≢true (sym (ap hasTicket absent) ∙ stands))
+rise-of ranks accepted ticket (some noted) known under stands =
+    subst (λ (ranks : Ranks). RisesStrictly (positionBy ranks) (targetsIn ticket)) under
+    (rise-as (noted .asked) ticket noted (subst Accepted (sym under) accepted) (known .words) (known .rest))
 
 -- What holds between the calls, whatever the plain words are.
-steady-as : (shared : Shared) {plain : ℕ → ℕ} → length (shared .book) ≡ wordsInBook → length (shared .tickets .slots) ≡ teamCount
+steady-as : (position : ℕ → ℕ) (shared : Shared) {plain : ℕ → ℕ} → length (shared .book) ≡ wordsInBook → length (shared .tickets .slots) ≡ teamCount
     → Invariant (shared .book) (ticketOf (shared .tickets)) plain
-    → AllRise positionOf (ticketOf (shared .tickets))
-    → Steady positionOf shared
-steady-as shared {plain} whole teams agree rise = record { whole = whole; teams = teams; going = record { plain = plain; agree = agree; rise = rise } }
+    → AllRise position (ticketOf (shared .tickets))
+    → Accepted (shared .ranks)
+    → Steady position shared
+steady-as position shared {plain} whole teams agree rise accepted = record { whole = whole; teams = teams; ranked = accepted; going = record { plain = plain; agree = agree; rise = rise } }
 
-run-steady : (store : Words) (calls : List Call) → Every Admitted calls → Steady positionOf (run store calls .end)
+run-steady : (store : Words) (calls : List Call) → Every Admitted calls → Steady (positionBy (run store calls .end .ranks)) (run store calls .end)
 run-steady store calls bytes =
     let good = run-good store calls bytes in
-    steady-as (run store calls .end) (good .whole) (run-table store calls .teams) (good .agree)
-    (λ team stands. rise-of (ticketOf (run store calls .end .tickets) team) (notesOn (heardOn store calls) .tickets team) (good .tied team) stands)
+    let shared = run store calls .end in
+    let n = notesOn (heardOn store calls) in
+    steady-as (positionBy (shared .ranks)) shared (good .whole) (run-table store calls .teams) (good .agree)
+    (λ team stands. rise-of (shared .ranks) (good .ranked) (ticketOf (shared .tickets) team) (n .tickets team) (good .tied team)
+    (subst (λ (ranks : Ranks). Under ranks (n .tickets team)) (sym (good .heard-ranks)) (good .under team)) stands)
+    (good .ranked)
 
 -- So every ticket gets done, views included.
 pub every-ticket-gets-done : EveryTicketGetsDone
-every-ticket-gets-done store calls bytes rounds goes many = all-get-done positionOf (run store calls .end) (run-steady store calls bytes) rounds goes (omega arith)
+every-ticket-gets-done store calls bytes rounds goes many =
+    all-get-done (positionBy (run store calls .end .ranks)) (run store calls .end) (run-steady store calls bytes) rounds goes (omega arith)

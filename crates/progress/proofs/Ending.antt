@@ -11,6 +11,7 @@ use borrow.Author.Tests.{eq-eqb, ne-eqb}
 use Rattle.words.specs.Tests.{occurs, distinct, Every}
 use Rattle.words.specs.Words.{wordsInBook, teamCount}
 use Rattle.words.proofs.Tests.{is-false}
+use Rattle.legs.specs.Positions.{Accepted}
 use Rattle.tickets.specs.declared.Ticket.{Ticket}
 use Rattle.tickets.specs.declared.Tickets.{Tickets}
 use Rattle.tickets.specs.Tickets.{absentSlot, ticketOf, withTicket, hasTicket}
@@ -60,10 +61,11 @@ first-once team teams once = by (occurs team teams) refl once
     by false is once = (is, once)
 
 module _ (position : ℕ → ℕ) where
-  -- What holds between the calls: the book and the table are whole, and the tickets go on.
+  -- What holds between the calls: the book and the table are whole, the ranks accepted, and the tickets go on.
   pub record Steady (shared : Shared) : Type 0 where
     pub whole : length (shared .book) ≡ wordsInBook
     pub teams : length (shared .tickets .slots) ≡ teamCount
+    pub ranked : Accepted (shared .ranks)
     pub going : Going position (shared .book) (ticketOf (shared .tickets))
 
   -- All the swaps left.
@@ -108,6 +110,7 @@ module _ (position : ℕ → ℕ) where
       steady = record {
         whole = length-kept (shared .book) (tickets team) team ∙ steady .whole;
         teams = length-set (shared .tickets .slots) team after ∙ steady .teams;
+        ranked = steady .ranked;
         going = subst (Going position (stepOf (shared .book) (tickets team) team .1)) (sym slots) (goes .going);
       };
       others-stay = λ other differs. ap (λ slots. slots other) slots ∙ slot-other tickets team other after differs;
@@ -117,7 +120,7 @@ module _ (position : ℕ → ℕ) where
     pub turn-taken : longestAnswer ≤ length (turn .out) → TurnTaken shared team (leftBy shared (stepCall turn))
     turn-taken room =
         let well = fit-well-made (tickets team) (subst (λ size. FitSlot size (tickets team)) (steady .whole) (steady .going .agree .fit team)) stands in
-        subst (TurnTaken shared team) (sym (left-by-step shared turn (steady .whole) inside stands well room)) step-taken
+        subst (TurnTaken shared team) (sym (left-by-step shared turn (steady .whole) (steady .ranked) inside stands well room)) step-taken
 
   -- A round: fewer swaps are left; or each of its tickets waits at its beginning.
   pub record RoundTaken (shared : Shared) (turns : List Turn) (after : Shared) : Type 0 where

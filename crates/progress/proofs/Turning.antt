@@ -9,6 +9,7 @@ use borrow.Author.Tests.{eq-eqb, lt-ltb, le-ltb}
 use Rattle.words.specs.Tests.{allHold, someHolds}
 use Rattle.words.specs.Words.{wordsInBook, teamCount}
 use Rattle.words.proofs.Tests.{next-test, failed-test}
+use Rattle.legs.specs.Positions.{Accepted}
 use Rattle.tickets.specs.Tickets.{ticketOf, withTicket, wellMade}
 use Rattle.tickets.specs.Steps.{stepOf}
 use Rattle.frames.specs.Request.{Step}
@@ -21,7 +22,7 @@ use Rattle.calls.specs.Call.{badlyMade, refusalChecks, refusalOf, Done, request
 use Rattle.calls.specs.Run.{Shared, onward, leftBy}
 use Rattle.progress.specs.Rounds.{Turn, stepCall, Stands}
 
-module _ (shared : Shared) (turn : Turn) (whole : length (shared .book) ≡ wordsInBook) (inside : turn .team < teamCount) (stands : Stands (shared .tickets) (turn .team))
+module _ (shared : Shared) (turn : Turn) (whole : length (shared .book) ≡ wordsInBook) (accepted : Accepted (shared .ranks)) (inside : turn .team < teamCount) (stands : Stands (shared .tickets) (turn .team))
     (well : wellMade (ticketOf (shared .tickets) (turn .team)) ≡ true) (room : longestAnswer ≤ length (turn .out)) where
   abbrev frame : Bytes
   frame = requestFrame (Step (turn .team))
@@ -32,16 +33,16 @@ module _ (shared : Shared) (turn : Turn) (whole : length (shared .book) ≡ word
   not-badly-made : badlyMade (ticketOf (shared .tickets) (turn .team)) ≡ false
   not-badly-made = next-test _ _ stands ∙ failed-test _ _ (ap not well)
 
-  not-refused : refusalOf (shared .book) (shared .tickets) frame (turn .out) ≡ none
+  not-refused : refusalOf (shared .book) (shared .tickets) (shared .ranks) frame (turn .out) ≡ none
   unfolding refusalOf refusalChecks requestFrame anglesOfKind someHolds allHold lengthFits
   not-refused =
-      rw (eq-eqb (length (shared .book)) wordsInBook whole, le-ltb (length (turn .out)) longestAnswer room, read-back, lt-ltb (turn .team) teamCount inside, not-badly-made, stands)
+      rw (eq-eqb (length (shared .book)) wordsInBook whole, accepted, le-ltb (length (turn .out)) longestAnswer room, read-back, lt-ltb (turn .team) teamCount inside, not-badly-made, stands)
 
-  does-step : doneOf (shared .book) (shared .tickets) frame (turn .out) ≡ requestDone (shared .book) (shared .tickets) (Step (turn .team))
+  does-step : doneOf (shared .book) (shared .tickets) (shared .ranks) frame (turn .out) ≡ requestDone (shared .book) (shared .tickets) (shared .ranks) (Step (turn .team))
   unfolding doneOf
   does-step =
-      ap (λ refusal. refusedOr refusal (shared .book) (shared .tickets) (requestIn frame)) not-refused
-      ∙ ap (requestDone (shared .book) (shared .tickets)) read-back
+      ap (λ refusal. refusedOr refusal (shared .book) (shared .tickets) (shared .ranks) (requestIn frame)) not-refused
+      ∙ ap (requestDone (shared .book) (shared .tickets) (shared .ranks)) read-back
 
   -- The step's ticket and words are what is left.
   pub left-by-step : let step = stepOf (shared .book) (ticketOf (shared .tickets) (turn .team)) (turn .team) in

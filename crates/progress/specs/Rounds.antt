@@ -90,7 +90,7 @@ abbrev pub NoneStands : Tickets → Type 0
 NoneStands tickets = (team : ℕ) → hasTicket (ticketOf tickets team .phase) ≡ false
 
 -- Statement: "After every list of calls from a fresh book, let only steps follow, in rounds .. After twice as many rounds as the standing
--- tickets have targets together, none stands."
+-- tickets have targets together, none stands." (Request 8) The list may hold loads: it holds "for each accepted table".
 abbrev pub EveryTicketGetsDone : Type 0
 EveryTicketGetsDone =
     (store : Words) (calls : List Call) → Every Admitted calls

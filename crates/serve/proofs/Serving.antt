@@ -9,6 +9,7 @@ use lib.Dec.{eqb}
 use lib.ListN.{length, take, drop, length-drop}
 use lib.Seq.{length-take-le}
 use Rattle.words.specs.Words.{Words, wordsInBook}
+use Rattle.legs.specs.Positions.{Ranks, Accepted}
 use Rattle.tickets.specs.declared.Tickets.{Tickets}
 use Rattle.frames.specs.declared.Answer.the-variants.{Refused}
 use Rattle.frames.specs.Numbers.{Bytes}
@@ -41,36 +42,36 @@ module _ (out : Bytes) (have : ℕ) where
   ends-whole none = ap ending-by (sym (le-ltb 0 have none))
 
 -- By what a read brought.
-module _ (words : Words) (tickets : Tickets) (buffer : Bytes) (have got : ℕ) (out : Bytes) where
+module _ (words : Words) (tickets : Tickets) (ranks : Ranks) (buffer : Bytes) (have got : ℕ) (out : Bytes) where
   abbrev ending : Served × Words × Bytes × Bytes
   ending = endedBy words tickets buffer (endOf out have)
 
   abbrev answering : Served × Words × Bytes × Bytes
-  answering = servedAfter buffer (have + got) (streamOf words tickets (take (have + got) buffer) out)
+  answering = servedAfter buffer (have + got) (streamOf words tickets ranks (take (have + got) buffer) out)
 
-  pub serves-end : {count : ℕ} {output : Bytes} → got ≡ 0 → (count, output) ≡ endOf out have → endedBy words tickets buffer (count, output) ≡ servedBy words tickets buffer have got out
+  pub serves-end : {count : ℕ} {output : Bytes} → got ≡ 0 → (count, output) ≡ endOf out have → endedBy words tickets buffer (count, output) ≡ servedBy words tickets ranks buffer have got out
   unfolding servedBy
   serves-end none is = ap (endedBy words tickets buffer) is ∙ ap (λ (test : Bool). cond test ending answering) (sym (eq-eqb got 0 none))
 
-  pub serves-read : (got ≡ 0 → ⊥) → answering ≡ servedBy words tickets buffer have got out
+  pub serves-read : (got ≡ 0 → ⊥) → answering ≡ servedBy words tickets ranks buffer have got out
   unfolding servedBy
   serves-read some = ap (λ (test : Bool). cond test ending answering) (sym (ne-eqb got 0 some))
 
 -- A stream that does not go on leaves room for Refused 3: two bytes are left over.
-refusal-room : (words : Words) (tickets : Tickets) (input out : Bytes) → length words ≡ wordsInBook → Roomy input out
-    → let result = streamOf words tickets input out in
+refusal-room : (words : Words) (tickets : Tickets) (ranks : Ranks) (input out : Bytes) → length words ≡ wordsInBook → Accepted ranks → Roomy input out
+    → let result = streamOf words tickets ranks input out in
     goesOn (result .0 .stop) ≡ false → longestAnswer ≤ length (result .2) - result .0 .written
-refusal-room words tickets input out whole roomy ends =
-    let result = streamOf words tickets input out in
-    let right : StreamRight (sharing words tickets) input out result = stream-is-run words tickets input out whole in
+refusal-room words tickets ranks input out whole accepted roomy ends =
+    let result = streamOf words tickets ranks input out in
+    let right : StreamRight (sharing words tickets ranks) input out result = stream-is-run words tickets ranks input out whole accepted in
     let bad-left : result .0 .stop ≡ BadLength → longestAnswer ≤ length (result .2) - result .0 .written =
     λ bad.
     let left = subst (λ (stop : Stop). StopRight stop (drop (result .0 .consumed) input) (length out - result .0 .written)) bad (right .stop-right) in
-    omega (arith, room-left words tickets input out whole roomy (left .0), right .same-length) in
-    elim (room-suffices words tickets input out whole roomy) [ inl bad ↦ bad-left bad | inr more ↦ absurd (false≢true (sym ends ∙ ap goesOn (more .0))) ]
+    omega (arith, room-left words tickets ranks input out whole accepted roomy (left .0), right .same-length) in
+    elim (room-suffices words tickets ranks input out whole accepted roomy) [ inl bad ↦ bad-left bad | inr more ↦ absurd (false≢true (sym ends ∙ ap goesOn (more .0))) ]
 
 -- By what a stream over the first bytes left.
-module _ (words : Words) (tickets : Tickets) (buffer : Bytes) (have : ℕ) (out : Bytes) (answered : Streamed) (after : Words) (filled : Bytes) (same : (answered, after, filled) ≡ streamOf words tickets (take have buffer) out) where
+module _ (words : Words) (tickets : Tickets) (ranks : Ranks) (buffer : Bytes) (have : ℕ) (out : Bytes) (answered : Streamed) (after : Words) (filled : Bytes) (same : (answered, after, filled) ≡ streamOf words tickets ranks (take have buffer) out) where
   abbrev onward : Served × Words × Bytes × Bytes
   onward = (served (answered .tickets) (have - answered .consumed) (answered .written) true, after, shifted buffer (answered .consumed) have, filled)
 
@@ -79,7 +80,7 @@ module _ (words : Words) (tickets : Tickets) (buffer : Bytes) (have : ℕ) (out 
 
   pub serves-no-more :
       {count : ℕ} {output : Bytes} → (count, output) ≡ refusedBehind filled (answered .written) → goesOn (answered .stop) ≡ false
-      → endedBy after (answered .tickets) buffer (count, output) ≡ servedAfter buffer have (streamOf words tickets (take have buffer) out)
+      → endedBy after (answered .tickets) buffer (count, output) ≡ servedAfter buffer have (streamOf words tickets ranks (take have buffer) out)
   serves-no-more refused ends =
       ap (endedBy after (answered .tickets) buffer) refused
       ∙ ap (λ (on : Bool). cond on onward halted) (sym ends)
@@ -87,20 +88,20 @@ module _ (words : Words) (tickets : Tickets) (buffer : Bytes) (have : ℕ) (out 
 
   pub serves-refused :
       {place : ℕ} {output : Bytes} → PutAt filled (answered .written) (answerFrame (Refused 3)) place output → goesOn (answered .stop) ≡ false
-      → endedBy after (answered .tickets) buffer (place, output) ≡ servedAfter buffer have (streamOf words tickets (take have buffer) out)
+      → endedBy after (answered .tickets) buffer (place, output) ≡ servedAfter buffer have (streamOf words tickets ranks (take have buffer) out)
   serves-refused put ends = serves-no-more (refused-put filled (answered .written) put) ends
 
   pub serves-on :
       (left : ℕ) (front : Bytes) → left ≡ have - answered .consumed → front ≡ shifted buffer (answered .consumed) have
       → goesOn (answered .stop) ≡ true
-      → (served (answered .tickets) left (answered .written) true, after, front, filled) ≡ servedAfter buffer have (streamOf words tickets (take have buffer) out)
+      → (served (answered .tickets) left (answered .written) true, after, front, filled) ≡ servedAfter buffer have (streamOf words tickets ranks (take have buffer) out)
   serves-on left front many moved goes =
       ap (λ (n : ℕ). (served (answered .tickets) n (answered .written) true, after, front, filled)) many
       ∙ ap (λ (bytes : Bytes). (served (answered .tickets) (have - answered .consumed) (answered .written) true, after, bytes, filled)) moved
       ∙ ap (λ (on : Bool). cond on onward halted) (sym goes)
       ∙ ap (servedAfter buffer have) same
 
-  module _ (whole : length words ≡ wordsInBook) (inside : have ≤ length buffer) (roomy : Roomy buffer out) where
+  module _ (whole : length words ≡ wordsInBook) (accepted : Accepted ranks) (inside : have ≤ length buffer) (roomy : Roomy buffer out) where
     front-long : length (take have buffer) ≡ have
     front-long = length-take-le have buffer inside
 
@@ -112,13 +113,13 @@ module _ (words : Words) (tickets : Tickets) (buffer : Bytes) (have : ℕ) (out 
     room-to-refuse ends =
         let enough : longestAnswer ≤ length filled - answered .written =
         subst (λ (result : Streamed × Words × Bytes). goesOn (result .0 .stop) ≡ false → longestAnswer ≤ length (result .2) - result .0 .written) (sym same)
-        (refusal-room words tickets (take have buffer) out whole front-roomy) ends in
+        (refusal-room words tickets ranks (take have buffer) out whole accepted front-roomy) ends in
         (omega (arith, enough), enough)
 
     pub refused-inside : {place : ℕ} {output : Bytes} → PutAt filled (answered .written) (answerFrame (Refused 3)) place output → place ≤ length out
     refused-inside put =
         let long : length filled ≡ length out =
-        subst (λ (result : Streamed × Words × Bytes). length (result .2) ≡ length out) (sym same) (stream-is-run words tickets (take have buffer) out whole .same-length) in
+        subst (λ (result : Streamed × Words × Bytes). length (result .2) ≡ length out) (sym same) (stream-is-run words tickets ranks (take have buffer) out whole accepted .same-length) in
         omega (arith, put .0 .1, long)
 
     -- and less than a whole frame is kept where it goes on.
@@ -131,7 +132,7 @@ module _ (words : Words) (tickets : Tickets) (buffer : Bytes) (have : ℕ) (out 
         stopped : (answered .stop ≡ BadLength) ⊎ ((answered .stop ≡ MoreInput) × (length (drop (answered .consumed) (take have buffer)) < longestFrame))
         stopped =
             subst (λ (result : Streamed × Words × Bytes). (result .0 .stop ≡ BadLength) ⊎ ((result .0 .stop ≡ MoreInput) × (length (drop (result .0 .consumed) (take have buffer)) < longestFrame))) (sym same)
-            (room-suffices words tickets (take have buffer) out whole front-roomy)
+            (room-suffices words tickets ranks (take have buffer) out whole accepted front-roomy)
 
         bad-ends : answered .stop ≡ BadLength → ⊥
         bad-ends bad = false≢true (sym (ap goesOn bad) ∙ goes)

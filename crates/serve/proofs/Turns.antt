@@ -12,6 +12,7 @@ use lib.Seq.{take-at, take-add, drop-append-le, length-take-le, length-slice}
 use Rattle.calls.specs.Run.{sharing}
 use Rattle.words.specs.Tests.{Every}
 use Rattle.words.specs.Words.{Words, wordsInBook}
+use Rattle.legs.specs.Positions.{Ranks, Accepted}
 use Rattle.frames.specs.declared.Answer.the-variants.{Refused}
 use Rattle.frames.specs.Numbers.{Bytes}
 use Rattle.frames.specs.Answers.{answerFrame}
@@ -95,10 +96,11 @@ at-end out (byte ∷ bytes) (suc n) inside =
 
 -- The program's memory, as a turn of the pieces knows it.
 abbrev known : Memory → Between
-known before = record { book = before .words; tickets = before .tickets; kept = take (before .have) (before .buffer); out = before .out }
+known before = record { book = before .words; tickets = before .tickets; ranks = before .ranks; kept = take (before .have) (before .buffer); out = before .out }
 
 -- What is so before each turn.
 record Ready (before : Memory) : Type 0 where
+  ranked : Accepted (before .ranks)
   whole : length (before .words) ≡ wordsInBook
   inside : before .have ≤ length (before .buffer)
   roomy : Roomy (before .buffer) (before .out)
@@ -128,18 +130,18 @@ module _ (before : Memory) (read : Read) (ready : Ready before) (into : ReadInto
   inside : have ≤ length buffer
   inside = omega (arith, into .fits, into .same-length)
 
-  same : (turn .0, turn .1, turn .2) ≡ streamOf (before .words) (before .tickets) (take have buffer) (before .out)
-  same = ap (λ (input : Bytes). streamOf (before .words) (before .tickets) input (before .out)) (sym (into .front))
+  same : (turn .0, turn .1, turn .2) ≡ streamOf (before .words) (before .tickets) (before .ranks) (take have buffer) (before .out)
+  same = ap (λ (input : Bytes). streamOf (before .words) (before .tickets) (before .ranks) input (before .out)) (sym (into .front))
 
-  abbrev right : StreamRight (sharing (before .words) (before .tickets)) (take (before .have) (before .buffer) ++ piece) (before .out) turn
-  right = stream-is-run (before .words) (before .tickets) (take (before .have) (before .buffer) ++ piece) (before .out) (ready .whole)
+  abbrev right : StreamRight (sharing (before .words) (before .tickets) (before .ranks)) (take (before .have) (before .buffer) ++ piece) (before .out) turn
+  right = stream-is-run (before .words) (before .tickets) (before .ranks) (take (before .have) (before .buffer) ++ piece) (before .out) (ready .whole) (ready .ranked)
 
   consumed-less : turn .0 .consumed ≤ have
   consumed-less =
       omega (arith, right .consumed, ap length (right .parts), length-append (joined (right .frames)) (drop (turn .0 .consumed) (take (before .have) (before .buffer) ++ piece)), ap length (into .front), length-take-le have buffer inside)
 
   abbrev next : Memory
-  next = record { words = turn .1; tickets = turn .0 .tickets; buffer = shifted buffer (turn .0 .consumed) have; have = have - turn .0 .consumed; out = turn .2 }
+  next = record { words = turn .1; tickets = turn .0 .tickets; ranks = before .ranks; buffer = shifted buffer (turn .0 .consumed) have; have = have - turn .0 .consumed; out = turn .2 }
 
   next-length : length (next .buffer) ≡ length (before .buffer)
   next-length = shift-length buffer (turn .0 .consumed) have consumed-less inside ∙ into .same-length
@@ -147,7 +149,8 @@ module _ (before : Memory) (read : Read) (ready : Ready before) (into : ReadInto
   next-ready : Ready next
   next-ready =
       record {
-        whole = left-length (before .words) (before .tickets) (take (before .have) (before .buffer) ++ piece) (before .out) (ready .whole);
+        ranked = ready .ranked;
+        whole = left-length (before .words) (before .tickets) (before .ranks) (take (before .have) (before .buffer) ++ piece) (before .out) (ready .whole) (ready .ranked);
         inside = omega (arith, next-length, into .fits);
         roomy = omega (arith, ready .roomy, next-length, right .same-length);
       }
@@ -155,29 +158,29 @@ module _ (before : Memory) (read : Read) (ready : Ready before) (into : ReadInto
   next-known : known next ≡ afterTurn (known before) piece
   next-known =
       let kept = shift-front buffer (turn .0 .consumed) have consumed-less inside ∙ ap (drop (turn .0 .consumed)) (into .front) in
-      λ i. record { book = turn .1; tickets = turn .0 .tickets; kept = kept i; out = turn .2 }
+      λ i. record { book = turn .1; tickets = turn .0 .tickets; ranks = before .ranks; kept = kept i; out = turn .2 }
 
-  answers : servedAfter buffer have (streamOf (before .words) (before .tickets) (take have buffer) (before .out)) ≡ turnBy before read
-  answers = serves-read (before .words) (before .tickets) buffer (before .have) (length piece) (before .out) (λ none. absurd (omega (arith, into .some, none)))
+  answers : servedAfter buffer have (streamOf (before .words) (before .tickets) (before .ranks) (take have buffer) (before .out)) ≡ turnBy before read
+  answers = serves-read (before .words) (before .tickets) (before .ranks) buffer (before .have) (length piece) (before .out) (λ none. absurd (omega (arith, into .some, none)))
 
   goes : goesOn (turn .0 .stop) ≡ true → (served (turn .0 .tickets) (have - turn .0 .consumed) (turn .0 .written) true, turn .1, shifted buffer (turn .0 .consumed) have, turn .2) ≡ turnBy before read
   goes on =
-      serves-on (before .words) (before .tickets) buffer have (before .out) (turn .0) (turn .1) (turn .2) same (have - turn .0 .consumed) (shifted buffer (turn .0 .consumed) have) refl refl on
+      serves-on (before .words) (before .tickets) (before .ranks) buffer have (before .out) (turn .0) (turn .1) (turn .2) same (have - turn .0 .consumed) (shifted buffer (turn .0 .consumed) have) refl refl on
       ∙ answers
 
   stops : goesOn (turn .0 .stop) ≡ false → endedBy (turn .1) (turn .0 .tickets) buffer (refusedBehind (turn .2) (turn .0 .written)) ≡ turnBy before read
-  stops ends = serves-no-more (before .words) (before .tickets) buffer have (before .out) (turn .0) (turn .1) (turn .2) same refl ends ∙ answers
+  stops ends = serves-no-more (before .words) (before .tickets) (before .ranks) buffer have (before .out) (turn .0) (turn .1) (turn .2) same refl ends ∙ answers
 
   -- What it writes where it stops.
   refused : take (refusedBehind (turn .2) (turn .0 .written) .0) (refusedBehind (turn .2) (turn .0 .written) .1) ≡ bytesOf turn ++ answerFrame (Refused 3)
   refused =
-      let answers = allWritten (runOn (sharing (before .words) (before .tickets)) (right .frames) .heard) in
+      let answers = allWritten (runOn (sharing (before .words) (before .tickets) (before .ranks)) (right .frames) .heard) in
       put-front (turn .2) (answerFrame (Refused 3)) (turn .0 .written)
       (omega (arith, right .written, ap length (right .output), length-append answers (drop (turn .0 .written) (before .out))))
 
   next-few : goesOn (turn .0 .stop) ≡ true → next .have < longestFrame
   next-few on =
-      few-kept (before .words) (before .tickets) buffer have (before .out) (turn .0) (turn .1) (turn .2) same (ready .whole) inside
+      few-kept (before .words) (before .tickets) (before .ranks) buffer have (before .out) (turn .0) (turn .1) (turn .2) same (ready .whole) (ready .ranked) inside
       (omega (arith, ready .roomy, into .same-length)) on
 
 -- By whether it goes on.
@@ -194,9 +197,9 @@ same-turns (read ∷ later) last before ready right =
     let after = next before read ready into in
     let done : goesOn (now .0 .stop) ≡ true → Same after later last =
     λ on. same-turns later last after (next-ready before read ready into)
-    (subst (λ (result : Served × Words × Bytes × Bytes). result .0 .on ≡ true → ReadsRight (memoryAfter result) later) (sym (goes before read ready into on)) (right .1) refl) in
+    (subst (λ (result : Served × Words × Bytes × Bytes). result .0 .on ≡ true → ReadsRight (memoryAfter (before .ranks) result) later) (sym (goes before read ready into on)) (right .1) refl) in
     let is = next-known before read ready into in
-    let wrote : Served × Words × Bytes × Bytes → Bytes = λ result. wroteBy result ++ cond (result .0 .on) (writtenInTurns (memoryAfter result) later last) [] in
+    let wrote : Served × Words × Bytes × Bytes → Bytes = λ result. wroteBy result ++ cond (result .0 .on) (writtenInTurns (memoryAfter (before .ranks) result) later last) [] in
     let in-pieces : Bool → Bytes = λ on. bytesOf now ++ cond on (piecesFrom (afterTurn (known before) (read .came)) (brought later)) (answerFrame (Refused 3)) in
     let going : goesOn (now .0 .stop) ≡ true → wrote (turnBy before read) ≡ in-pieces (goesOn (now .0 .stop)) =
     λ on. ap wrote (sym (goes before read ready into on))
@@ -212,13 +215,13 @@ same-turns (read ∷ later) last before ready right =
       );
     }
 
-ready-at-first : (buffer out : Bytes) → Roomy buffer out → Ready (starting buffer out)
-ready-at-first buffer out roomy = record { whole = length-replicate {A = ℕ} wordsInBook 0; inside = omega arith; roomy = roomy }
+ready-at-first : (ranks : Ranks) → Accepted ranks → (buffer out : Bytes) → Roomy buffer out → Ready (starting ranks buffer out)
+ready-at-first ranks accepted buffer out roomy = record { ranked = accepted; whole = length-replicate {A = ℕ} wordsInBook 0; inside = omega arith; roomy = roomy }
 
 pub turns-are-survey : TurnsAreSurvey
-turns-are-survey buffer out last reads roomy right =
-    let same = same-turns reads last (starting buffer out) (ready-at-first buffer out roomy) right in
-    same .bytes ∙ pieces-are-survey out (brought reads) (same .room)
+turns-are-survey ranks accepted buffer out last reads roomy right =
+    let same = same-turns reads last (starting ranks buffer out) (ready-at-first ranks accepted buffer out roomy) right in
+    same .bytes ∙ pieces-are-survey ranks accepted out (brought reads) (same .room)
 
 -- Less than a frame of the longest kind is kept, so that a read with that much to spare fits.
 right-each : (pieces : List Bytes) (before : Memory) (room : ℕ) → Ready before → before .have < longestFrame → length (before .buffer) ≡ room
@@ -228,7 +231,7 @@ right-each [] before room ready few long spare = tt
 right-each (piece ∷ later) before room ready few long spare =
     let read = readInto before piece in
     let into = read-into before piece (spare .0 .0) (omega (arith, few, long, spare .0 .1)) in
-    let onward : Served × Words × Bytes × Bytes → Type 0 = λ result. ReadsRight (memoryAfter result) (readsOf (memoryAfter result) later) in
+    let onward : Served × Words × Bytes × Bytes → Type 0 = λ result. ReadsRight (memoryAfter (before .ranks) result) (readsOf (memoryAfter (before .ranks) result) later) in
     let going : Type 0 = turnBy before read .0 .on ≡ true → onward (turnBy before read) in (
       into,
       either (goesOn (turn before read ready into .0 .stop)) going
@@ -238,4 +241,4 @@ right-each (piece ∷ later) before room ready few long spare =
     )
 
 pub reads-fit : ReadsFit
-reads-fit buffer out pieces roomy spare = right-each pieces (starting buffer out) (length buffer) (ready-at-first buffer out roomy) (omega arith) refl spare
+reads-fit ranks accepted buffer out pieces roomy spare = right-each pieces (starting ranks buffer out) (length buffer) (ready-at-first ranks accepted buffer out roomy) (omega arith) refl spare

@@ -7,6 +7,7 @@ use lib.ListN.{length, take, drop}
 use lib.Dec.{eqb, ltb}
 use Rattle.words.specs.Tests.{Every}
 use Rattle.words.specs.Words.{Words}
+use Rattle.legs.specs.Positions.{Ranks, Accepted}
 use Rattle.tickets.specs.declared.Tickets.{Tickets}
 use Rattle.frames.specs.declared.Answer.the-variants.{Refused}
 use Rattle.frames.specs.Numbers.{Bytes}
@@ -14,7 +15,7 @@ use Rattle.frames.specs.Answers.{answerFrame, written}
 use Rattle.frames.specs.Fields.{longestFrame}
 use Rattle.calls.specs.declared.Streamed.{Streamed}
 use Rattle.calls.specs.Run.{fresh}
-use Rattle.calls.specs.Survey.{joined, surveyOf}
+use Rattle.calls.specs.Survey.{joined, surveyUnder}
 use Rattle.calls.specs.Stream.{streamOf, roomIn, withRoom, Roomy}
 use Rattle.calls.specs.Pieces.{goesOn}
 use Rattle.serve.specs.declared.Served.{Served}
@@ -48,11 +49,11 @@ servedAfter buffer have (answered, words, out) =
     (endedBy words next buffer (refusedBehind out (answered .written)))
 
 -- After a read that brought so many bytes behind those kept, none at the end of the input: all whole frames answered, and what is kept.
-unfoldable pub servedBy : Words → Tickets → Bytes → ℕ → ℕ → Bytes → Served × Words × Bytes × Bytes
-servedBy words tickets buffer have got out =
+unfoldable pub servedBy : Words → Tickets → Ranks → Bytes → ℕ → ℕ → Bytes → Served × Words × Bytes × Bytes
+servedBy words tickets ranks buffer have got out =
     cond (eqb got 0)
     (endedBy words tickets buffer (endOf out have))
-    (servedAfter buffer (have + got) (streamOf words tickets (take (have + got) buffer) out))
+    (servedAfter buffer (have + got) (streamOf words tickets ranks (take (have + got) buffer) out))
 
 -- What is written then: the front of the output.
 abbrev pub wroteBy : Served × Words × Bytes × Bytes → Bytes
@@ -62,13 +63,14 @@ wroteBy turn = take (turn .0 .written) (turn .3)
 pub record Memory : Type 0 where
   pub words : Words
   pub tickets : Tickets
+  pub ranks : Ranks
   pub buffer : Bytes
   pub have : ℕ
   pub out : Bytes
 
--- At first a fresh book, and no byte in the buffer.
-abbrev pub starting : Bytes → Bytes → Memory
-starting buffer out = record { words = fresh [] .book; tickets = fresh [] .tickets; buffer = buffer; have = 0; out = out }
+-- At first a fresh book under some ranks, and no byte in the buffer.
+abbrev pub starting : Ranks → Bytes → Bytes → Memory
+starting ranks buffer out = record { words = fresh [] .book; tickets = fresh [] .tickets; ranks = ranks; buffer = buffer; have = 0; out = out }
 
 -- A read: the bytes that came, and the buffer after it.
 pub record Read : Type 0 where
@@ -92,31 +94,32 @@ EveryReadIsInto =
 
 -- A turn: one read, and what is done after it.
 abbrev pub turnBy : Memory → Read → Served × Words × Bytes × Bytes
-turnBy before read = servedBy (before .words) (before .tickets) (read .buffer) (before .have) (length (read .came)) (before .out)
+turnBy before read = servedBy (before .words) (before .tickets) (before .ranks) (read .buffer) (before .have) (length (read .came)) (before .out)
 
-abbrev pub memoryAfter : Served × Words × Bytes × Bytes → Memory
-memoryAfter (result, words, buffer, out) = record { words = words; tickets = result .tickets; buffer = buffer; have = result .have; out = out }
+-- What it leaves to the next turn; no turn writes the ranks.
+abbrev pub memoryAfter : Ranks → Served × Words × Bytes × Bytes → Memory
+memoryAfter ranks (result, words, buffer, out) = record { words = words; tickets = result .tickets; ranks = ranks; buffer = buffer; have = result .have; out = out }
 
 -- What it writes for reads, one after another, and a last one that brings nothing, until a turn says that it does not go on.
 unfoldable pub writtenInTurns : Memory → List Read → Bytes → Bytes
 writtenInTurns before [] last = wroteBy (turnBy before (record { came = []; buffer = last }))
 writtenInTurns before (read ∷ later) last =
     let turn = turnBy before read in
-    wroteBy turn ++ cond (turn .0 .on) (writtenInTurns (memoryAfter turn) later last) []
+    wroteBy turn ++ cond (turn .0 .on) (writtenInTurns (memoryAfter (before .ranks) turn) later last) []
 
 -- Each read that is made brings something behind what is kept.
 unfoldable pub ReadsRight : Memory → List Read → Type 0
 ReadsRight before [] = Unit {0}
 ReadsRight before (read ∷ later) =
     let turn = turnBy before read in
-    ReadInto before read × (turn .0 .on ≡ true → ReadsRight (memoryAfter turn) later)
+    ReadInto before read × (turn .0 .on ≡ true → ReadsRight (memoryAfter (before .ranks) turn) later)
 
--- Statement: however the input comes, with room for every answer, these turns write what survey is to write for the whole of it.
+-- Statement: however the input comes, with room for every answer and under any ranks that are accepted, these turns write what survey is to write for the whole of it.
 abbrev pub TurnsAreSurvey : Type 0
 TurnsAreSurvey =
-    (buffer out last : Bytes) (reads : List Read)
-    → Roomy buffer out → ReadsRight (starting buffer out) reads
-    → writtenInTurns (starting buffer out) reads last ≡ surveyOf (joined (map (λ read. read .came) reads))
+    (ranks : Ranks) → Accepted ranks → (buffer out last : Bytes) (reads : List Read)
+    → Roomy buffer out → ReadsRight (starting ranks buffer out) reads
+    → writtenInTurns (starting ranks buffer out) reads last ≡ surveyUnder ranks (joined (map (λ read. read .came) reads))
 
 -- Reads that bring these pieces, one after another, and leave every other byte of the buffer.
 abbrev pub readInto : Memory → Bytes → Read
@@ -126,11 +129,11 @@ readInto before piece =
 
 unfoldable pub readsOf : Memory → List Bytes → List Read
 readsOf before [] = []
-readsOf before (piece ∷ later) = readInto before piece ∷ readsOf (memoryAfter (turnBy before (readInto before piece))) later
+readsOf before (piece ∷ later) = readInto before piece ∷ readsOf (memoryAfter (before .ranks) (turnBy before (readInto before piece))) later
 
 -- Statement: any pieces can come so that leave room in the buffer for a frame of the longest kind, since less than such a frame is ever kept.
 abbrev pub ReadsFit : Type 0
 ReadsFit =
-    (buffer out : Bytes) (pieces : List Bytes)
+    (ranks : Ranks) → Accepted ranks → (buffer out : Bytes) (pieces : List Bytes)
     → Roomy buffer out → Every (λ piece. (0 < length piece) × (longestFrame + length piece ≤ length buffer)) pieces
-    → ReadsRight (starting buffer out) (readsOf (starting buffer out) pieces)
+    → ReadsRight (starting ranks buffer out) (readsOf (starting ranks buffer out) pieces)

@@ -3,6 +3,7 @@ ghost use mathlib.Core.Path.{_≡_};
 ghost use Prim.Native.Nat.{_+_, _-_, _<_, _≤_};
 ghost use lib.ListN.{length, take};
 ghost use Rattle.words.specs.Words.{wordsInBook};
+ghost use Rattle.legs.specs.Positions.{Accepted};
 ghost use Rattle.frames.specs.declared.Answer.the-variants.{Refused};
 ghost use Rattle.frames.specs.Answers.{answerFrame, longestAnswer};
 ghost use Rattle.frames.specs.Fields.{longestFrame};
@@ -63,15 +64,16 @@ fn shift(buffer: &mut [u8], from: usize, have: usize) -> usize
 fn stream_front(
     book: &mut [u64],
     tickets: Tickets,
+    ranks: &[u16],
     buffer: &[u8],
     have: usize,
     out: &mut [u8],
 ) -> Streamed
     requires { ⌜ have ≤ length (now buffer) ⌝ }
     ensures bounds { λ r. ⌜ (r .consumed ≤ have) × (r .written ≤ length (now (out .entry))) ⌝ }
-    ensures all { λ r. ⌜ (r, now (book .exit), now (out .exit)) ≡ streamOf (now (book .entry)) tickets (take have (now (buffer .entry))) (now (out .entry)) ⌝ }
+    ensures all { λ r. ⌜ (r, now (book .exit), now (out .exit)) ≡ streamOf (now (book .entry)) tickets (now (ranks .entry)) (take have (now (buffer .entry))) (now (out .entry)) ⌝ }
 {
-    book::stream(book, tickets, &buffer[0..have], out)
+    book::stream(book, tickets, ranks, &buffer[0..have], out)
 }
 
 fn goes_on(stop: Stop) -> bool
@@ -82,6 +84,7 @@ fn goes_on(stop: Stop) -> bool
         Stop::OutputFull => true,
         Stop::BadLength => false,
         Stop::NoBook => false,
+        Stop::NoRanks => false,
     }
 }
 
@@ -90,15 +93,16 @@ fn goes_on(stop: Stop) -> bool
 fn serve_front(
     book: &mut [u64],
     tickets: Tickets,
+    ranks: &[u16],
     buffer: &mut [u8],
     have: usize,
     out: &mut [u8],
 ) -> Served
-    requires { ⌜ (have ≤ length (now buffer)) × (length (now book) ≡ wordsInBook) × Roomy (now buffer) (now out) ⌝ }
+    requires { ⌜ (have ≤ length (now buffer)) × (length (now book) ≡ wordsInBook) × Accepted (now ranks) × Roomy (now buffer) (now out) ⌝ }
     ensures bounds { λ r. ⌜ (r .have ≤ have) × (r .have < longestFrame) × (r .written ≤ length (now (out .entry))) ⌝ }
-    ensures all { λ r. ⌜ (r, now (book .exit), now (buffer .exit), now (out .exit)) ≡ servedAfter (now (buffer .entry)) have (streamOf (now (book .entry)) tickets (take have (now (buffer .entry))) (now (out .entry))) ⌝ }
+    ensures all { λ r. ⌜ (r, now (book .exit), now (buffer .exit), now (out .exit)) ≡ servedAfter (now (buffer .entry)) have (streamOf (now (book .entry)) tickets (now (ranks .entry)) (take have (now (buffer .entry))) (now (out .entry))) ⌝ }
 {
-    let answered = stream_front(book, tickets, buffer, have, out);
+    let answered = stream_front(book, tickets, ranks, buffer, have, out);
     let next = answered.tickets;
     let stop = answered.stop;
     if !goes_on(stop) {
@@ -124,14 +128,15 @@ fn serve_front(
 pub fn after_read(
     book: &mut [u64],
     tickets: Tickets,
+    ranks: &[u16],
     buffer: &mut [u8],
     have: usize,
     got: usize,
     out: &mut [u8],
 ) -> Served
-    requires { ⌜ (have + got ≤ length (now buffer)) × (longestFrame ≤ length (now buffer)) × (length (now book) ≡ wordsInBook) × Roomy (now buffer) (now out) ⌝ }
+    requires { ⌜ (have + got ≤ length (now buffer)) × (longestFrame ≤ length (now buffer)) × (length (now book) ≡ wordsInBook) × Accepted (now ranks) × Roomy (now buffer) (now out) ⌝ }
     ensures bounds { λ r. ⌜ (r .have < longestFrame) × (r .written ≤ length (now (out .entry))) ⌝ }
-    ensures all { λ r. ⌜ (r, now (book .exit), now (buffer .exit), now (out .exit)) ≡ servedBy (now (book .entry)) tickets (now (buffer .entry)) have got (now (out .entry)) ⌝ }
+    ensures all { λ r. ⌜ (r, now (book .exit), now (buffer .exit), now (out .exit)) ≡ servedBy (now (book .entry)) tickets (now (ranks .entry)) (now (buffer .entry)) have got (now (out .entry)) ⌝ }
 {
     if got == 0 {
         let count = at_end(out, have);
@@ -142,5 +147,5 @@ pub fn after_read(
             on: false,
         };
     }
-    serve_front(book, tickets, buffer, have + got, out)
+    serve_front(book, tickets, ranks, buffer, have + got, out)
 }

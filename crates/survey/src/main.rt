@@ -3,6 +3,7 @@ ghost use mathlib.Core.Path.{_≡_};
 ghost use Prim.Native.Nat.{_+_, _<_, _≤_};
 ghost use lib.ListN.{length, take};
 ghost use Rattle.words.specs.Words.{wordsInBook};
+ghost use Rattle.legs.specs.Positions.{Accepted};
 ghost use Rattle.frames.specs.Fields.{longestFrame};
 ghost use Rattle.calls.specs.Stream.{Roomy};
 use frames::Answer;
@@ -43,29 +44,30 @@ fn read_more(buffer: &mut [u8], have: usize) -> usize
 fn serve_some(
     book: &mut [u64],
     tickets: Tickets,
+    ranks: &[u16],
     buffer: &mut [u8],
     have: usize,
     out: &mut [u8],
 ) -> Served
-    requires { ⌜ (have < longestFrame) × (longestFrame ≤ length (now buffer)) × (length (now book) ≡ wordsInBook) × Roomy (now buffer) (now out) ⌝ }
+    requires { ⌜ (have < longestFrame) × (longestFrame ≤ length (now buffer)) × (length (now book) ≡ wordsInBook) × Accepted (now ranks) × Roomy (now buffer) (now out) ⌝ }
     ensures { λ r. ⌜ r .have < longestFrame ⌝ }
 {
     let got = read_more(buffer, have);
-    let served = serve::after_read(book, tickets, buffer, have, got, out);
+    let served = serve::after_read(book, tickets, ranks, buffer, have, got, out);
     write_front(out, served.written);
     served
 }
 
 // Turn after turn, to the end of the input or a length field above 62.
-fn serve_all(book: &mut [u64], buffer: &mut [u8], out: &mut [u8])
-    requires { ⌜ (longestFrame ≤ length (now buffer)) × (length (now book) ≡ wordsInBook) × Roomy (now buffer) (now out) ⌝ }
+fn serve_all(book: &mut [u64], ranks: &[u16], buffer: &mut [u8], out: &mut [u8])
+    requires { ⌜ (longestFrame ≤ length (now buffer)) × (length (now book) ≡ wordsInBook) × Accepted (now ranks) × Roomy (now buffer) (now out) ⌝ }
 {
     let mut tickets = Tickets::fresh();
     let mut have: usize = 0;
     let mut turns: u64 = 18446744073709551615;
     while 0 < turns {
         turns -= 1;
-        let served = serve_some(book, tickets, buffer, have, out);
+        let served = serve_some(book, tickets, ranks, buffer, have, out);
         if !served.on {
             return;
         }
@@ -78,5 +80,6 @@ fn main() {
     let mut book = [0u64; Limits::WORDS];
     let mut buffer = [0u8; Buffers::INPUT];
     let mut out = [0u8; Buffers::OUTPUT];
-    serve_all(&mut book, &mut buffer, &mut out);
+    let ranks = legs::fixed_ranks();
+    serve_all(&mut book, &ranks, &mut buffer, &mut out);
 }

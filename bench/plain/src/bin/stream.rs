@@ -765,7 +765,7 @@ fn main() -> io::Result<()> {
     for _ in 0..frames {
         let (frame, bytes) = teams.frame();
         out.write_all(&frame[..bytes])?;
-        let answer = book.answer(&frame);
+        let answer = book.answer(&Ranks::FIXED, &frame);
         kinds[answer.kind() as usize] += 1;
         let kind = u16::from_le_bytes([frame[2], frame[3]]);
         if kind == STEP && answer.kind() != REFUSED {

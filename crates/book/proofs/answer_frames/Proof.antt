@@ -26,10 +26,10 @@ use Rattle.book.proofs.answer_frames.Statement.{statement}
 use Rattle.book.proofs.answer_frames.Tie as tie
 
 abbrev Inv-loop : tie.InvT-loop
-Inv-loop book₀ input out₀ tickets₀ known gone shown₀ at₀ filled₀ book out tickets shown at filled = Goes input (length out₀) (streamFrom (length input) book₀ tickets₀ input out₀ 0 0) known book out tickets shown at filled
+Inv-loop book₀ ranks input out₀ tickets₀ known gone shown₀ at₀ filled₀ book out tickets shown at filled = Goes ranks input (length out₀) (streamFrom (length input) book₀ tickets₀ ranks input out₀ 0 0) known book out tickets shown at filled
 
 abbrev μ-loop : tie.MeasureT-loop
-μ-loop book₀ input out₀ tickets₀ known gone shown₀ at₀ filled₀ book out tickets shown at filled = length input - at
+μ-loop book₀ ranks input out₀ tickets₀ known gone shown₀ at₀ filled₀ book out tickets shown at filled = length input - at
 
 all-well-made-requires : tie.Need-all-well-made-requires Inv-loop μ-loop
 all-well-made-requires c κs = search needs
@@ -46,9 +46,10 @@ loop-holds c = (
   search needs,
   search needs,
   search needs,
-  record { most = length (now (c .before .before .before .before .before .before .before .args .input)); enough = omega arith; is = refl },
+  record { most = length (now (c .before .before .before .before .before .before .before .before .args .input)); enough = omega arith; is = refl },
   λ known. all-well-made _ (sym (c .before .before .before .all-well-made .ensures) ∙ known),
   λ known team inside edit. c .show-all .ensures team inside,
+  c .before .before .before .before .before .before .before .before .pre .1,
 )
 
 next-frame-requires : tie.Need-next-frame-requires Inv-loop μ-loop
@@ -75,7 +76,7 @@ same-length-2 c = search needs
 returns : tie.Need-returns Inv-loop μ-loop
 returns c =
     let loop = c .before .before .before .before .before .before .loop in
-    let input = (now (c .before .before .before .before .before .before .before .before .before .before .before .before .before .before .args .input)) in
+    let input = (now (c .before .before .before .before .before .before .before .before .before .before .before .before .before .before .before .args .input)) in
     let told = c .before .before .enum-told .given in
     let left = loop .inv .4 in
     let some : 0 < left .most = omega (arith, left .enough, c .before .before .before .before .before .loop-test .taken) in
@@ -84,7 +85,7 @@ returns c =
       (omega (arith, ap (λ r. r .consumed) is, loop .inv .1), omega (arith, ap (λ r. r .written) is, loop .inv .2, loop .inv .3)),
       (λ i. (is i, loop .book, loop .out))
           ∙ (λ i. (streamed (loop .tickets) (loop .at) (loop .filled) (stop i), loop .book, loop .out))
-          ∙ sym (stops (loop .book) (loop .tickets) input (loop .out) (loop .at) (loop .filled) (left .most) (told .0 .0) some (sym (c .before .before .before .before .next-frame .ensures .0) ∙ told .1))
+          ∙ sym (stops (loop .book) (loop .tickets) _ input (loop .out) (loop .at) (loop .filled) (left .most) (told .0 .0) some (sym (c .before .before .before .before .next-frame .ensures .0) ∙ told .1))
           ∙ left .is,
     )
 
@@ -103,7 +104,7 @@ same-length-4 c = search needs
 returns-2 : tie.Need-returns-2 Inv-loop μ-loop
 returns-2 c =
     let loop = c .before .before .before .before .before .before .before .loop in
-    let input = (now (c .before .before .before .before .before .before .before .before .before .before .before .before .before .before .before .args .input)) in
+    let input = (now (c .before .before .before .before .before .before .before .before .before .before .before .before .before .before .before .before .args .input)) in
     let given = c .before .before .before .next .given in
     let left = loop .inv .4 in
     let some : 0 < left .most = omega (arith, left .enough, c .before .before .before .before .before .before .loop-test .taken) in
@@ -111,13 +112,13 @@ returns-2 c =
     let is = c .stopped2 .ensures in (
       (omega (arith, ap (λ r. r .consumed) is, loop .inv .1), omega (arith, ap (λ r. r .written) is, loop .inv .2, loop .inv .3)),
       (λ i. (is i, loop .book, loop .out))
-          ∙ sym (full (loop .book) (loop .tickets) input (loop .out) (loop .at) (loop .filled) (left .most) (given .0 .0) some next (c .before .if1 .taken))
+          ∙ sym (full (loop .book) (loop .tickets) _ input (loop .out) (loop .at) (loop .filled) (left .most) (given .0 .0) some next (c .before .if1 .taken))
           ∙ left .is,
     )
 
 add-end : tie.Need-add-end Inv-loop μ-loop
 add-end c =
-    let inside = subst (NextInside (now (c .before .before .before .before .before .before .before .before .before .before .before .before .before .before .args .input)) (c .before .before .before .before .before .before .loop .at)) (c .before .before .next .given .1) (c .before .before .before .before .next-frame .ensures .1) in
+    let inside = subst (NextInside (now (c .before .before .before .before .before .before .before .before .before .before .before .before .before .before .before .args .input)) (c .before .before .before .before .before .before .loop .at)) (c .before .before .next .given .1) (c .before .before .before .before .next-frame .ensures .1) in
     omega (arith, inside .1)
 
 sub-frame : tie.Need-sub-frame Inv-loop μ-loop
@@ -128,7 +129,7 @@ part-frame-start c = search needs
 
 part-frame-end : tie.Need-part-frame-end Inv-loop μ-loop
 part-frame-end c =
-    let inside = subst (NextInside (now (c .before .before .before .before .before .before .before .before .before .before .before .before .before .before .args .input)) (c .before .before .before .before .before .before .loop .at)) (c .before .before .next .given .1) (c .before .before .before .before .next-frame .ensures .1) in
+    let inside = subst (NextInside (now (c .before .before .before .before .before .before .before .before .before .before .before .before .before .before .before .args .input)) (c .before .before .before .before .before .before .loop .at)) (c .before .before .next .given .1) (c .before .before .before .before .next-frame .ensures .1) in
     inside .1
 
 aim-of-requires : tie.Need-aim-of-requires Inv-loop μ-loop
@@ -136,14 +137,15 @@ aim-of-requires c κs = search needs
 
 -- The frame found.
 abbrev frame-at : Point aim-of-requires → Bytes
-frame-at c = frameAt (now (c .before .before .before .before .before .before .before .before .before .before .before .before .before .before .before .args .input)) (c .before .before .before .before .before .before .before .loop .at) (c .before .before .before .next .given .0 .0)
+frame-at c = frameAt (now (c .before .before .before .before .before .before .before .before .before .before .before .before .before .before .before .before .args .input)) (c .before .before .before .before .before .before .before .loop .at) (c .before .before .before .next .given .0 .0)
 
 -- Where it is answered, by its aim.
 abbrev turn-of : (c : Point aim-of-requires) (aim : Aim) → Aimed (frame-at c) aim → Turn
 turn-of c aim aimed =
     let loop = c .before .before .before .before .before .before .before .loop in
-    let input = (now (c .before .before .before .before .before .before .before .before .before .before .before .before .before .before .before .args .input)) in
+    let input = (now (c .before .before .before .before .before .before .before .before .before .before .before .before .before .before .before .before .args .input)) in
     record {
+      ranks = _;
       input = input;
       long = _;
       all = _;
@@ -155,7 +157,7 @@ turn-of c aim aimed =
       at = loop .at;
       filled = loop .filled;
       goes = loop .inv;
-      bytes = each-byte input (λ place. omega (arith, c .before .before .before .before .before .before .before .before .before .before .before .before .before .shared-slice-known .given place));
+      bytes = each-byte input (λ place. omega (arith, c .before .before .before .before .before .before .before .before .before .before .before .before .before .shared-slice-known2 .given place));
       some = c .before .before .before .before .before .before .loop-test .taken;
       found = c .before .before .before .before .before .next-frame .result;
       found-is = c .before .before .before .before .before .next-frame .ensures;
@@ -174,13 +176,13 @@ put-refused-requires c κs = (c .before .before .before .before .before .before 
 
 loop-less : tie.Need-loop-less Inv-loop μ-loop
 loop-less c =
-    let inside = subst (NextInside (now (c .before .before .before .before .before .before .before .before .before .before .before .before .before .before .before .before .before .before .before .before .before .before .before .args .input)) (c .before .before .before .before .before .before .before .before .before .before .before .before .before .before .before .loop .at)) (c .before .before .before .before .before .before .before .before .before .before .before .next .given .1) (c .before .before .before .before .before .before .before .before .before .before .before .before .before .next-frame .ensures .1) in
+    let inside = subst (NextInside (now (c .before .before .before .before .before .before .before .before .before .before .before .before .before .before .before .before .before .before .before .before .before .before .before .before .args .input)) (c .before .before .before .before .before .before .before .before .before .before .before .before .before .before .before .loop .at)) (c .before .before .before .before .before .before .before .before .before .before .before .next .given .1) (c .before .before .before .before .before .before .before .before .before .before .before .before .before .next-frame .ensures .1) in
     omega (arith, c .before .before .before .before .before .before .before .before .before .before .before .before .before .before .loop-test .taken, inside .0, inside .1)
 
 loop-again : tie.Need-loop-again Inv-loop μ-loop
 loop-again c =
     let turn = turn-of (c .before .before .before .before .before .before .before .before) _ (aimed-as (frame-at (c .before .before .before .before .before .before .before .before)) (c .before .before .before .before .before .before .before .aim-of .ensures) (c .before .before .before .before .before .aim .given .1)) in
-    turned turn (turn .mirror) (refused-by (turn .words) (ticketIn turn) (frameIn turn) _) (sym (slot-same (turn .tickets) (slotIn turn))) (turn .goes .6) (search needs) (c .before .before .put-refused .ensures)
+    turned turn (turn .mirror) (refused-by (turn .words) (ticketIn turn) (turn .ranks) (frameIn turn) _) (sym (slot-same (turn .tickets) (slotIn turn))) (turn .goes .6) (search needs) (c .before .before .put-refused .ensures)
 
 enum-told-2 : tie.Need-enum-told-2 Inv-loop μ-loop
 enum-told-2 c = search needs
@@ -196,14 +198,14 @@ put-look-requires c κs = (c .before .before .before .before .before .before .be
 
 loop-less-2 : tie.Need-loop-less-2 Inv-loop μ-loop
 loop-less-2 c =
-    let inside = subst (NextInside (now (c .before .before .before .before .before .before .before .before .before .before .before .before .before .before .before .before .before .before .before .before .before .before .before .before .before .args .input)) (c .before .before .before .before .before .before .before .before .before .before .before .before .before .before .before .before .before .loop .at)) (c .before .before .before .before .before .before .before .before .before .before .before .before .before .next .given .1) (c .before .before .before .before .before .before .before .before .before .before .before .before .before .before .before .next-frame .ensures .1) in
+    let inside = subst (NextInside (now (c .before .before .before .before .before .before .before .before .before .before .before .before .before .before .before .before .before .before .before .before .before .before .before .before .before .before .args .input)) (c .before .before .before .before .before .before .before .before .before .before .before .before .before .before .before .before .before .loop .at)) (c .before .before .before .before .before .before .before .before .before .before .before .before .before .next .given .1) (c .before .before .before .before .before .before .before .before .before .before .before .before .before .before .before .next-frame .ensures .1) in
     omega (arith, c .before .before .before .before .before .before .before .before .before .before .before .before .before .before .before .before .loop-test .taken, inside .0, inside .1)
 
 loop-again-2 : tie.Need-loop-again-2 Inv-loop μ-loop
 loop-again-2 c =
     let turn = turn-of (c .before .before .before .before .before .before .before .before .before .before) _ (aimed-as (frame-at (c .before .before .before .before .before .before .before .before .before .before)) (c .before .before .before .before .before .before .before .before .before .aim-of .ensures) (c .before .before .before .before .before .before .before .enum-told2 .given .1)) in
     let word = c .before .before .before .before .before .read16 .ensures .0 ∙ ap (λ l. number16 l 0) (c .before .before .before .before .before .before .part-after-kind .ensures) in
-    turned turn (turn .mirror) (look-by (turn .words) (ticketIn turn) (frameIn turn) _ word) (sym (slot-same (turn .tickets) (slotIn turn))) (turn .goes .6) (search needs) (c .before .before .put-look .ensures)
+    turned turn (turn .mirror) (look-by (turn .words) (ticketIn turn) (turn .ranks) (frameIn turn) _ word) (sym (slot-same (turn .tickets) (slotIn turn))) (turn .goes .6) (search needs) (c .before .before .put-look .ensures)
 
 enum-known-aim-2 : tie.Need-enum-known-aim-2 Inv-loop μ-loop
 enum-known-aim-2 c = search needs
@@ -273,7 +275,7 @@ put-went-requires c κs =
 
 loop-less-3 : tie.Need-loop-less-3 Inv-loop μ-loop
 loop-less-3 c =
-    let inside = subst (NextInside (now (c .before .before .before .before .before .before .before .before .before .before .before .before .before .before .before .before .before .before .before .before .before .before .before .before .before .before .before .before .before .before .before .before .before .before .before .before .args .input)) (c .before .before .before .before .before .before .before .before .before .before .before .before .before .before .before .before .before .before .before .before .before .before .before .before .before .before .before .before .loop .at)) (c .before .before .before .before .before .before .before .before .before .before .before .before .before .before .before .before .before .before .before .before .before .before .before .before .next .given .1) (c .before .before .before .before .before .before .before .before .before .before .before .before .before .before .before .before .before .before .before .before .before .before .before .before .before .before .next-frame .ensures .1) in
+    let inside = subst (NextInside (now (c .before .before .before .before .before .before .before .before .before .before .before .before .before .before .before .before .before .before .before .before .before .before .before .before .before .before .before .before .before .before .before .before .before .before .before .before .before .args .input)) (c .before .before .before .before .before .before .before .before .before .before .before .before .before .before .before .before .before .before .before .before .before .before .before .before .before .before .before .before .loop .at)) (c .before .before .before .before .before .before .before .before .before .before .before .before .before .before .before .before .before .before .before .before .before .before .before .before .next .given .1) (c .before .before .before .before .before .before .before .before .before .before .before .before .before .before .before .before .before .before .before .before .before .before .before .before .before .before .next-frame .ensures .1) in
     omega (arith, c .before .before .before .before .before .before .before .before .before .before .before .before .before .before .before .before .before .before .before .before .before .before .before .before .before .before .before .loop-test .taken, inside .0, inside .1)
 
 loop-again-3 : tie.Need-loop-again-3 Inv-loop μ-loop
@@ -284,7 +286,7 @@ loop-again-3 c =
     let on = sym (c .before .before .before .before .before .before .goes-on .ensures) ∙ c .before .before .before .before .before .if3 .taken in
     let went = going-is-settled (turn .words) (ticketIn turn) (team-at (c .before .before .before .before .before .before .before .before .before .before .before .before .before .before .before .before .before)) (swapped .result .found) (known .made) (known .edit) (subst (λ (expected : ℕ). continues (ticketIn turn) expected (swapped .result .found) ≡ true) (swapped .ensures .0) on) in
     turned turn (turn .mirror)
-    (step-by (turn .words) (ticketIn turn) (frameIn turn) (kind-at (c .before .before .before .before .before .before .before .before .before .before .before .before .before .before .before .before .before)) (team-at (c .before .before .before .before .before .before .before .before .before .before .before .before .before .before .before .before .before)) (swapped .result .found) (known .stands) (known .made) (known .step) (swapped .ensures .1) ((λ i. stepped (c .before .before .before .before .went-on .ensures i) (wentAnswer (ticketIn turn .phase) (nextOf (ticketIn turn) + 1))) ∙ went))
+    (step-by (turn .words) (ticketIn turn) (turn .ranks) (frameIn turn) (kind-at (c .before .before .before .before .before .before .before .before .before .before .before .before .before .before .before .before .before)) (team-at (c .before .before .before .before .before .before .before .before .before .before .before .before .before .before .before .before .before)) (swapped .result .found) (known .stands) (known .made) (known .step) (swapped .ensures .1) ((λ i. stepped (c .before .before .before .before .went-on .ensures i) (wentAnswer (ticketIn turn .phase) (nextOf (ticketIn turn) + 1))) ∙ went))
     refl (λ all. shows-with (turn .mirror) (turn .tickets) (slotIn turn) _ (turn .goes .6 all) (shows-went (turn .mirror) (slotIn turn) (ticketIn turn) (c .before .before .before .before .went-on .ensures) (known .is-edit) (slot-shown turn all))) (search needs) (c .before .before .put-went .ensures)
 
 answer-to-requires : tie.Need-answer-to-requires Inv-loop μ-loop
@@ -306,7 +308,7 @@ put-step-requires c κs = (c .before .before .before .before .before .before .be
 
 loop-less-4 : tie.Need-loop-less-4 Inv-loop μ-loop
 loop-less-4 c =
-    let inside = subst (NextInside (now (c .before .before .before .before .before .before .before .before .before .before .before .before .before .before .before .before .before .before .before .before .before .before .before .before .before .before .before .before .before .before .before .before .before .before .before .before .before .before .args .input)) (c .before .before .before .before .before .before .before .before .before .before .before .before .before .before .before .before .before .before .before .before .before .before .before .before .before .before .before .before .before .before .loop .at)) (c .before .before .before .before .before .before .before .before .before .before .before .before .before .before .before .before .before .before .before .before .before .before .before .before .before .before .next .given .1) (c .before .before .before .before .before .before .before .before .before .before .before .before .before .before .before .before .before .before .before .before .before .before .before .before .before .before .before .before .next-frame .ensures .1) in
+    let inside = subst (NextInside (now (c .before .before .before .before .before .before .before .before .before .before .before .before .before .before .before .before .before .before .before .before .before .before .before .before .before .before .before .before .before .before .before .before .before .before .before .before .before .before .before .args .input)) (c .before .before .before .before .before .before .before .before .before .before .before .before .before .before .before .before .before .before .before .before .before .before .before .before .before .before .before .before .before .before .loop .at)) (c .before .before .before .before .before .before .before .before .before .before .before .before .before .before .before .before .before .before .before .before .before .before .before .before .before .before .next .given .1) (c .before .before .before .before .before .before .before .before .before .before .before .before .before .before .before .before .before .before .before .before .before .before .before .before .before .before .before .before .next-frame .ensures .1) in
     omega (arith, c .before .before .before .before .before .before .before .before .before .before .before .before .before .before .before .before .before .before .before .before .before .before .before .before .before .before .before .before .before .loop-test .taken, inside .0, inside .1)
 
 loop-again-4 : tie.Need-loop-again-4 Inv-loop μ-loop
@@ -316,7 +318,7 @@ loop-again-4 c =
     let swapped = c .before .before .before .before .before .before .before .before .before .before .before .swap in
     let answer = c .before .before .before .before .before .before .answer-to in
     turned turn (turn .mirror)
-    (step-by (turn .words) (ticketIn turn) (frameIn turn) (kind-at (c .before .before .before .before .before .before .before .before .before .before .before .before .before .before .before .before .before .before .before)) (team-at (c .before .before .before .before .before .before .before .before .before .before .before .before .before .before .before .before .before .before .before)) (swapped .result .found) (known .stands) (known .made) (known .step) (swapped .ensures .1) ((λ i. stepped ((c .before .before .before .before .before .before .before .before .before .before .before .before .before .before .before .before .before .before .before .before .before .before .before .before .before .before .before .before .before .before .before .before .before .none .ensures ∙ gone-after (ticketIn turn) (answer .result) (sym (c .before .before .before .before .before .finishes .ensures) ∙ c .before .before .before .before .if4 .taken)) i) (asStep (answer .result))) ∙ answer .ensures .0))
+    (step-by (turn .words) (ticketIn turn) (turn .ranks) (frameIn turn) (kind-at (c .before .before .before .before .before .before .before .before .before .before .before .before .before .before .before .before .before .before .before)) (team-at (c .before .before .before .before .before .before .before .before .before .before .before .before .before .before .before .before .before .before .before)) (swapped .result .found) (known .stands) (known .made) (known .step) (swapped .ensures .1) ((λ i. stepped ((c .before .before .before .before .before .before .before .before .before .before .before .before .before .before .before .before .before .before .before .before .before .before .before .before .before .before .before .before .before .before .before .before .before .none .ensures ∙ gone-after (ticketIn turn) (answer .result) (sym (c .before .before .before .before .before .finishes .ensures) ∙ c .before .before .before .before .if4 .taken)) i) (asStep (answer .result))) ∙ answer .ensures .0))
     refl (λ all. shows-with (turn .mirror) (turn .tickets) (slotIn turn) _ (turn .goes .6 all) (shows-gone (turn .mirror) (slotIn turn) (c .before .before .before .before .before .before .before .before .before .before .before .before .before .before .before .before .before .before .before .before .before .before .before .before .before .before .before .before .before .before .before .before .before .none .ensures))) (search needs) (c .before .before .put-step .ensures)
 
 after-requires : tie.Need-after-requires Inv-loop μ-loop
@@ -333,7 +335,7 @@ put-step-requires-2 c κs = (c .before .before .before .before .before .before .
 
 loop-less-5 : tie.Need-loop-less-5 Inv-loop μ-loop
 loop-less-5 c =
-    let inside = subst (NextInside (now (c .before .before .before .before .before .before .before .before .before .before .before .before .before .before .before .before .before .before .before .before .before .before .before .before .before .before .before .before .before .before .before .before .before .before .before .before .before .before .before .args .input)) (c .before .before .before .before .before .before .before .before .before .before .before .before .before .before .before .before .before .before .before .before .before .before .before .before .before .before .before .before .before .before .before .loop .at)) (c .before .before .before .before .before .before .before .before .before .before .before .before .before .before .before .before .before .before .before .before .before .before .before .before .before .before .before .next .given .1) (c .before .before .before .before .before .before .before .before .before .before .before .before .before .before .before .before .before .before .before .before .before .before .before .before .before .before .before .before .before .next-frame .ensures .1) in
+    let inside = subst (NextInside (now (c .before .before .before .before .before .before .before .before .before .before .before .before .before .before .before .before .before .before .before .before .before .before .before .before .before .before .before .before .before .before .before .before .before .before .before .before .before .before .before .before .args .input)) (c .before .before .before .before .before .before .before .before .before .before .before .before .before .before .before .before .before .before .before .before .before .before .before .before .before .before .before .before .before .before .before .loop .at)) (c .before .before .before .before .before .before .before .before .before .before .before .before .before .before .before .before .before .before .before .before .before .before .before .before .before .before .before .next .given .1) (c .before .before .before .before .before .before .before .before .before .before .before .before .before .before .before .before .before .before .before .before .before .before .before .before .before .before .before .before .before .next-frame .ensures .1) in
     omega (arith, c .before .before .before .before .before .before .before .before .before .before .before .before .before .before .before .before .before .before .before .before .before .before .before .before .before .before .before .before .before .before .loop-test .taken, inside .0, inside .1)
 
 loop-again-5 : tie.Need-loop-again-5 Inv-loop μ-loop
@@ -343,7 +345,7 @@ loop-again-5 c =
     let swapped = c .before .before .before .before .before .before .before .before .before .before .before .before .swap in
     let answer = c .before .before .before .before .before .before .before .answer-to in
     turned turn (turn .mirror)
-    (step-by (turn .words) (ticketIn turn) (frameIn turn) (kind-at (c .before .before .before .before .before .before .before .before .before .before .before .before .before .before .before .before .before .before .before .before)) (team-at (c .before .before .before .before .before .before .before .before .before .before .before .before .before .before .before .before .before .before .before .before)) (swapped .result .found) (known .stands) (known .made) (known .step) (swapped .ensures .1) ((λ i. stepped (c .before .before .before .before .after .ensures i) (asStep (answer .result))) ∙ answer .ensures .0))
+    (step-by (turn .words) (ticketIn turn) (turn .ranks) (frameIn turn) (kind-at (c .before .before .before .before .before .before .before .before .before .before .before .before .before .before .before .before .before .before .before .before)) (team-at (c .before .before .before .before .before .before .before .before .before .before .before .before .before .before .before .before .before .before .before .before)) (swapped .result .found) (known .stands) (known .made) (known .step) (swapped .ensures .1) ((λ i. stepped (c .before .before .before .before .after .ensures i) (asStep (answer .result))) ∙ answer .ensures .0))
     refl (λ all. shows-with (turn .mirror) (turn .tickets) (slotIn turn) _ (turn .goes .6 all) (shows-after (turn .mirror) (slotIn turn) (ticketIn turn) (answer .result) (c .before .before .before .before .after .ensures) (sym (c .before .before .before .before .before .before .finishes .ensures) ∙ c .before .before .before .before .before .if4 .left) (known .is-edit) (slot-shown turn all))) (search needs) (c .before .before .put-step2 .ensures)
 
 opens-edit-requires : tie.Need-opens-edit-requires Inv-loop μ-loop
@@ -355,14 +357,15 @@ part-after-kind-requires-2 c κs = team-aimed (c .before .before .before .before
 read-edit-requires : tie.Need-read-edit-requires Inv-loop μ-loop
 read-edit-requires c κs =
     let turn = team-turn (c .before .before .before .before .before .before) in
-    let fields = edit-fields (turn .words) (ticketIn turn) _ (kind-at (c .before .before .before .before .before .before)) (team-at (c .before .before .before .before .before .before)) (sym (c .before .before .opens-edit .ensures) ∙ c .before .if5 .taken) (team-known-frame (turn .words) (frameIn turn) (kind-at (c .before .before .before .before .before .before)) (team-at (c .before .before .before .before .before .before)) _ (turn .goes .0) (turn .aimed .1) (c .part-after-kind2 .ensures)) in
+    let fields = edit-fields (turn .words) (ticketIn turn) (turn .ranks) _ (kind-at (c .before .before .before .before .before .before)) (team-at (c .before .before .before .before .before .before)) (sym (c .before .before .opens-edit .ensures) ∙ c .before .if5 .taken) (team-known-frame (turn .words) (frameIn turn) (kind-at (c .before .before .before .before .before .before)) (team-at (c .before .before .before .before .before .before)) _ (turn .goes .0) (turn .aimed .1) (c .part-after-kind2 .ensures)) in
     (fields .edit, fields .long)
 
 enum-known-read : tie.Need-enum-known-read Inv-loop μ-loop
 enum-known-read c = search needs
 
 opened-requires : tie.Need-opened-requires Inv-loop μ-loop
-opened-requires c κs = read-allowed _ _ _ (sym (c .before .before .before .read-edit .ensures) ∙ c .before .read .given .1)
+opened-requires c κs =
+    (read-allowed _ _ _ (sym (c .before .before .before .read-edit .ensures) ∙ c .before .read .given .1), team-turn (c .before .before .before .before .before .before .before .before .before .before) .goes .7)
 
 mul-opened : tie.Need-mul-opened Inv-loop μ-loop
 mul-opened c = omega (arith, team-aimed (c .before .before .before .before .before .before .before .before .before .before .before) .1 .2)
@@ -378,14 +381,14 @@ put-standing-requires c κs = (c .before .before .before .before .before .before
 
 loop-less-6 : tie.Need-loop-less-6 Inv-loop μ-loop
 loop-less-6 c =
-    let inside = subst (NextInside (now (c .before .before .before .before .before .before .before .before .before .before .before .before .before .before .before .before .before .before .before .before .before .before .before .before .before .before .before .before .before .before .before .before .before .before .before .before .args .input)) (c .before .before .before .before .before .before .before .before .before .before .before .before .before .before .before .before .before .before .before .before .before .before .before .before .before .before .before .before .loop .at)) (c .before .before .before .before .before .before .before .before .before .before .before .before .before .before .before .before .before .before .before .before .before .before .before .before .next .given .1) (c .before .before .before .before .before .before .before .before .before .before .before .before .before .before .before .before .before .before .before .before .before .before .before .before .before .before .next-frame .ensures .1) in
+    let inside = subst (NextInside (now (c .before .before .before .before .before .before .before .before .before .before .before .before .before .before .before .before .before .before .before .before .before .before .before .before .before .before .before .before .before .before .before .before .before .before .before .before .before .args .input)) (c .before .before .before .before .before .before .before .before .before .before .before .before .before .before .before .before .before .before .before .before .before .before .before .before .before .before .before .before .loop .at)) (c .before .before .before .before .before .before .before .before .before .before .before .before .before .before .before .before .before .before .before .before .before .before .before .before .next .given .1) (c .before .before .before .before .before .before .before .before .before .before .before .before .before .before .before .before .before .before .before .before .before .before .before .before .before .before .next-frame .ensures .1) in
     omega (arith, c .before .before .before .before .before .before .before .before .before .before .before .before .before .before .before .before .before .before .before .before .before .before .before .before .before .before .before .loop-test .taken, inside .0, inside .1)
 
 loop-again-6 : tie.Need-loop-again-6 Inv-loop μ-loop
 loop-again-6 c =
     let turn = team-turn (c .before .before .before .before .before .before .before .before .before .before .before .before .before .before .before .before .before) in
     turned turn (c .before .before .before .before .show .last .0)
-    (opened-by (turn .words) (ticketIn turn) (frameIn turn) (kind-at (c .before .before .before .before .before .before .before .before .before .before .before .before .before .before .before .before .before)) (team-at (c .before .before .before .before .before .before .before .before .before .before .before .before .before .before .before .before .before)) _ (c .before .before .before .before .before .before .before .before .before .before .read-edit .result) (sym (c .before .before .before .before .before .before .before .before .before .before .before .before .before .opens-edit .ensures) ∙ c .before .before .before .before .before .before .before .before .before .before .before .before .if5 .taken) (c .before .before .before .before .before .before .before .before .before .before .before .part-after-kind2 .ensures) (c .before .before .before .before .before .before .before .before .before .before .read-edit .ensures) _ _ (c .before .before .before .before .before .before .before .before .read .given .1) (c .before .before .before .before .before .before .opened .ensures))
+    (opened-by (turn .words) (ticketIn turn) (turn .ranks) (frameIn turn) (kind-at (c .before .before .before .before .before .before .before .before .before .before .before .before .before .before .before .before .before)) (team-at (c .before .before .before .before .before .before .before .before .before .before .before .before .before .before .before .before .before)) _ (c .before .before .before .before .before .before .before .before .before .before .read-edit .result) (sym (c .before .before .before .before .before .before .before .before .before .before .before .before .before .opens-edit .ensures) ∙ c .before .before .before .before .before .before .before .before .before .before .before .before .if5 .taken) (c .before .before .before .before .before .before .before .before .before .before .before .part-after-kind2 .ensures) (c .before .before .before .before .before .before .before .before .before .before .read-edit .ensures) _ _ (c .before .before .before .before .before .before .before .before .read .given .1) (c .before .before .before .before .before .before .opened .ensures))
     refl (λ all. shows-opened (turn .mirror) (c .before .before .before .before .show .last .0) (turn .tickets) (slotIn turn) _ (turn .goes .6 all) (c .before .before .before .before .show .ensures)) (search needs) (c .before .before .put-standing .ensures)
 
 enum-known-read-2 : tie.Need-enum-known-read-2 Inv-loop μ-loop
@@ -396,13 +399,13 @@ put-refused-requires-2 c κs = (c .before .before .before .before .before .befor
 
 loop-less-7 : tie.Need-loop-less-7 Inv-loop μ-loop
 loop-less-7 c =
-    let inside = subst (NextInside (now (c .before .before .before .before .before .before .before .before .before .before .before .before .before .before .before .before .before .before .before .before .before .before .before .before .before .before .before .before .before .before .before .before .before .args .input)) (c .before .before .before .before .before .before .before .before .before .before .before .before .before .before .before .before .before .before .before .before .before .before .before .before .before .loop .at)) (c .before .before .before .before .before .before .before .before .before .before .before .before .before .before .before .before .before .before .before .before .before .next .given .1) (c .before .before .before .before .before .before .before .before .before .before .before .before .before .before .before .before .before .before .before .before .before .before .before .next-frame .ensures .1) in
+    let inside = subst (NextInside (now (c .before .before .before .before .before .before .before .before .before .before .before .before .before .before .before .before .before .before .before .before .before .before .before .before .before .before .before .before .before .before .before .before .before .before .args .input)) (c .before .before .before .before .before .before .before .before .before .before .before .before .before .before .before .before .before .before .before .before .before .before .before .before .before .loop .at)) (c .before .before .before .before .before .before .before .before .before .before .before .before .before .before .before .before .before .before .before .before .before .next .given .1) (c .before .before .before .before .before .before .before .before .before .before .before .before .before .before .before .before .before .before .before .before .before .before .before .next-frame .ensures .1) in
     omega (arith, c .before .before .before .before .before .before .before .before .before .before .before .before .before .before .before .before .before .before .before .before .before .before .before .before .loop-test .taken, inside .0, inside .1)
 
 loop-again-7 : tie.Need-loop-again-7 Inv-loop μ-loop
 loop-again-7 c =
     let turn = team-turn (c .before .before .before .before .before .before .before .before .before .before .before .before .before .before) in
-    turned turn (turn .mirror) (unopened-by (turn .words) (ticketIn turn) (frameIn turn) (kind-at (c .before .before .before .before .before .before .before .before .before .before .before .before .before .before)) (team-at (c .before .before .before .before .before .before .before .before .before .before .before .before .before .before)) _ (c .before .before .before .before .before .before .before .read-edit .result) (sym (c .before .before .before .before .before .before .before .before .before .before .opens-edit .ensures) ∙ c .before .before .before .before .before .before .before .before .before .if5 .taken) (c .before .before .before .before .before .before .before .before .part-after-kind2 .ensures) (c .before .before .before .before .before .before .before .read-edit .ensures) _ (c .before .before .before .before .before .read2 .given .1)) (sym (slot-same (turn .tickets) (slotIn turn))) (turn .goes .6) (search needs) (c .before .before .put-refused2 .ensures)
+    turned turn (turn .mirror) (unopened-by (turn .words) (ticketIn turn) (turn .ranks) (frameIn turn) (kind-at (c .before .before .before .before .before .before .before .before .before .before .before .before .before .before)) (team-at (c .before .before .before .before .before .before .before .before .before .before .before .before .before .before)) _ (c .before .before .before .before .before .before .before .read-edit .result) (sym (c .before .before .before .before .before .before .before .before .before .before .opens-edit .ensures) ∙ c .before .before .before .before .before .before .before .before .before .if5 .taken) (c .before .before .before .before .before .before .before .before .part-after-kind2 .ensures) (c .before .before .before .before .before .before .before .read-edit .ensures) _ (c .before .before .before .before .before .read2 .given .1)) (sym (slot-same (turn .tickets) (slotIn turn))) (turn .goes .6) (search needs) (c .before .before .put-refused2 .ensures)
 
 part-after-kind-requires-3 : tie.Need-part-after-kind-requires-3 Inv-loop μ-loop
 part-after-kind-requires-3 c κs = team-aimed (c .before .before .before .before .before) .1 .0 .head
@@ -416,7 +419,7 @@ element-copy-out-whole c = omega (arith, team-aimed (c .before .before .before .
 team-frame-requires : tie.Need-team-frame-requires Inv-loop μ-loop
 team-frame-requires c κs =
     let turn = team-turn (c .before .before .before .before .before .before .before .before) in
-    (team-known-frame (turn .words) (frameIn turn) (kind-at (c .before .before .before .before .before .before .before .before)) (team-at (c .before .before .before .before .before .before .before .before)) _ (turn .goes .0) (turn .aimed .1) (c .before .before .part-after-kind3 .ensures), slot-known-made turn, sym (c .before .before .before .before .opens-edit .ensures) ∙ c .before .before .before .if5 .left)
+    (team-known-frame (turn .words) (frameIn turn) (kind-at (c .before .before .before .before .before .before .before .before)) (team-at (c .before .before .before .before .before .before .before .before)) _ (turn .goes .0) (turn .aimed .1) (c .before .before .part-after-kind3 .ensures), slot-known-made turn, sym (c .before .before .before .before .opens-edit .ensures) ∙ c .before .before .before .if5 .left, turn .goes .7)
 
 mul-next : tie.Need-mul-next Inv-loop μ-loop
 mul-next c = omega (arith, team-aimed (c .before .before .before .before .before .before .before .before .before .before .before .before) .1 .2)
@@ -429,7 +432,7 @@ put-answer-requires c κs = (c .before .before .before .before .before .before .
 
 loop-less-8 : tie.Need-loop-less-8 Inv-loop μ-loop
 loop-less-8 c =
-    let inside = subst (NextInside (now (c .before .before .before .before .before .before .before .before .before .before .before .before .before .before .before .before .before .before .before .before .before .before .before .before .before .before .before .before .before .before .before .before .before .before .before .args .input)) (c .before .before .before .before .before .before .before .before .before .before .before .before .before .before .before .before .before .before .before .before .before .before .before .before .before .before .before .loop .at)) (c .before .before .before .before .before .before .before .before .before .before .before .before .before .before .before .before .before .before .before .before .before .before .before .next .given .1) (c .before .before .before .before .before .before .before .before .before .before .before .before .before .before .before .before .before .before .before .before .before .before .before .before .before .next-frame .ensures .1) in
+    let inside = subst (NextInside (now (c .before .before .before .before .before .before .before .before .before .before .before .before .before .before .before .before .before .before .before .before .before .before .before .before .before .before .before .before .before .before .before .before .before .before .before .before .args .input)) (c .before .before .before .before .before .before .before .before .before .before .before .before .before .before .before .before .before .before .before .before .before .before .before .before .before .before .before .loop .at)) (c .before .before .before .before .before .before .before .before .before .before .before .before .before .before .before .before .before .before .before .before .before .before .before .next .given .1) (c .before .before .before .before .before .before .before .before .before .before .before .before .before .before .before .before .before .before .before .before .before .before .before .before .before .next-frame .ensures .1) in
     omega (arith, c .before .before .before .before .before .before .before .before .before .before .before .before .before .before .before .before .before .before .before .before .before .before .before .before .before .before .loop-test .taken, inside .0, inside .1)
 
 loop-again-8 : tie.Need-loop-again-8 Inv-loop μ-loop
@@ -437,11 +440,11 @@ loop-again-8 c =
     let turn = team-turn (c .before .before .before .before .before .before .before .before .before .before .before .before .before .before .before .before) in
     let other = sym (c .before .before .before .before .before .before .before .before .before .before .before .before .before .before .steps-edit .ensures) ∙ c .before .before .before .before .before .before .before .before .before .before .before .before .before .if2 .left in
     turned turn (turn .mirror)
-    (team-by (turn .words) (ticketIn turn) (frameIn turn) (kind-at (c .before .before .before .before .before .before .before .before .before .before .before .before .before .before .before .before)) (team-at (c .before .before .before .before .before .before .before .before .before .before .before .before .before .before .before .before)) _ (c .before .before .before .before .before .before .before .before .before .before .part-after-kind3 .ensures) (c .before .before .before .before .before .before .before .team-frame .ensures))
+    (team-by (turn .words) (ticketIn turn) (turn .ranks) (frameIn turn) (kind-at (c .before .before .before .before .before .before .before .before .before .before .before .before .before .before .before .before)) (team-at (c .before .before .before .before .before .before .before .before .before .before .before .before .before .before .before .before)) _ (c .before .before .before .before .before .before .before .before .before .before .part-after-kind3 .ensures) (c .before .before .before .before .before .before .before .team-frame .ensures))
     refl
     (λ all.
     shows-with (turn .mirror) (turn .tickets) (slotIn turn) _ (turn .goes .6 all)
-    (shows-rest (turn .mirror) (turn .words) (ticketIn turn) _ (kind-at (c .before .before .before .before .before .before .before .before .before .before .before .before .before .before .before .before)) (team-at (c .before .before .before .before .before .before .before .before .before .before .before .before .before .before .before .before)) (team-known-frame (turn .words) (frameIn turn) (kind-at (c .before .before .before .before .before .before .before .before .before .before .before .before .before .before .before .before)) (team-at (c .before .before .before .before .before .before .before .before .before .before .before .before .before .before .before .before)) _ (turn .goes .0) (turn .aimed .1) (c .before .before .before .before .before .before .before .before .before .before .part-after-kind3 .ensures)) (subst (λ (b : Bool). stepsEdit (ticketIn turn) b (kind-at (c .before .before .before .before .before .before .before .before .before .before .before .before .before .before .before .before)) ≡ false) all other) (sym (c .before .before .before .before .before .before .before .before .before .before .before .before .opens-edit .ensures) ∙ c .before .before .before .before .before .before .before .before .before .before .before .if5 .left) (c .before .before .before .before .before .before .before .team-frame .ensures) (slot-shown turn all)))
+    (shows-rest (turn .mirror) (turn .words) (ticketIn turn) (turn .ranks) _ (kind-at (c .before .before .before .before .before .before .before .before .before .before .before .before .before .before .before .before)) (team-at (c .before .before .before .before .before .before .before .before .before .before .before .before .before .before .before .before)) (team-known-frame (turn .words) (frameIn turn) (kind-at (c .before .before .before .before .before .before .before .before .before .before .before .before .before .before .before .before)) (team-at (c .before .before .before .before .before .before .before .before .before .before .before .before .before .before .before .before)) _ (turn .goes .0) (turn .aimed .1) (c .before .before .before .before .before .before .before .before .before .before .part-after-kind3 .ensures)) (subst (λ (b : Bool). stepsEdit (ticketIn turn) b (kind-at (c .before .before .before .before .before .before .before .before .before .before .before .before .before .before .before .before)) ≡ false) all other) (sym (c .before .before .before .before .before .before .before .before .before .before .before .before .opens-edit .ensures) ∙ c .before .before .before .before .before .before .before .before .before .before .before .if5 .left) (c .before .before .before .before .before .before .before .team-frame .ensures) (slot-shown turn all)))
     (search needs) (c .before .before .put-answer .ensures)
 
 stopped-requires-3 : tie.Need-stopped-requires-3 Inv-loop μ-loop
@@ -456,12 +459,12 @@ same-length-6 c = search needs
 returns-3 : tie.Need-returns-3 Inv-loop μ-loop
 returns-3 c =
     let loop = c .before .before .loop in
-    let input = (now (c .before .before .before .before .before .before .before .before .before .before .args .input)) in
+    let input = (now (c .before .before .before .before .before .before .before .before .before .before .before .args .input)) in
     let left = loop .inv .4 in
     let is = c .stopped3 .ensures in (
       (omega (arith, ap (λ r. r .consumed) is, loop .inv .1), omega (arith, ap (λ r. r .written) is, loop .inv .2, loop .inv .3)),
       (λ i. (is i, loop .book, loop .out))
-          ∙ sym (ended (left .most) (loop .book) (loop .tickets) input (loop .out) (loop .at) (loop .filled) (c .before .loop-test .left))
+          ∙ sym (ended (left .most) (loop .book) (loop .tickets) _ input (loop .out) (loop .at) (loop .filled) (c .before .loop-test .left))
           ∙ left .is,
     )
 

@@ -16,27 +16,28 @@ enum-told c = search needs
 
 open-view-requires : tie.Need-open-view-requires
 open-view-requires c κs =
-    let start = c .before .before .before .before .before in
-    view-read-opens (now (start .args .part)) _ (start .pre) (c .before .before .before .read-view .ensures) (c .enum-told .given .1)
+    let start = c .before .before .before .before .before .before in
+    let (is, fine) = view-read-opens (now (start .args .part)) _ (start .pre .0) (c .before .before .before .read-view .ensures) (c .enum-told .given .1) in
+    (is, fine, start .pre .1)
 
 enum-known-reading : tie.Need-enum-known-reading
 enum-known-reading c = search needs
 
 returns : tie.Need-returns
 returns c =
-    let start = c .before .before .before .before .before .before in
+    let start = c .before .before .before .before .before .before .before in
     let read = c .before .before .before .before .read-view in
-    let (is, fine) = view-read-opens (now (start .args .part)) (read .result) (start .pre) (read .ensures) (c .before .enum-told .given .1) in
+    let (is, fine) = view-read-opens (now (start .args .part)) (read .result) (start .pre .0) (read .ensures) (c .before .enum-told .given .1) in
     (λ i. settledWith (c .open-view .ensures i) (Answer.Standing (c .open-view .ensures i .n)))
-    ∙ view-settles (start .args .ticket) (read .result .view) fine is
-    ∙ view-opened (start .args .ticket) (read .result) (c .before .enum-told .given .1)
-    ∙ ap (viewSettled (start .args .ticket)) (read .ensures)
+    ∙ view-settles (start .args .ticket) (now (start .args .ranks)) (read .result .view) fine is
+    ∙ view-opened (start .args .ticket) (now (start .args .ranks)) (read .result) (c .before .enum-told .given .1)
+    ∙ ap (viewSettled (start .args .ticket) (now (start .args .ranks))) (read .ensures)
 
 returns-2 : tie.Need-returns-2
 returns-2 c =
-    let start = c .before .before .before .before .before .before in
+    let start = c .before .before .before .before .before .before .before in
     let read = c .before .before .before .before .read-view in
-    view-refused (start .args .ticket) (read .result) _ (c .before .reading .given .1) ∙ ap (viewSettled (start .args .ticket)) (read .ensures)
+    view-refused (start .args .ticket) (now (start .args .ranks)) (read .result) _ (c .before .reading .given .1) ∙ ap (viewSettled (start .args .ticket) (now (start .args .ranks))) (read .ensures)
 
 pub open-view-spec : {M : Type 1} → statement M
 open-view-spec =

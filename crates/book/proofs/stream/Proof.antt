@@ -1,8 +1,9 @@
--- `book::stream` meets its contract: no book of 4,096 words, or all frames answered.
+-- `book::stream` meets its contract: no book of 4,096 words, ranks that are not accepted, or all frames answered.
 use native.Mathlib.Omega.{arith}
-use mathlib.Core.Path.{ap, _∙_}
+use mathlib.Core.Path.{sym, ap, _∙_}
 use denote.Ref.{now}
-use Rattle.calls.proofs.Streaming.{stream-whole, stream-no-book}
+use borrow.Author.Tests.{not-true, not-false}
+use Rattle.calls.proofs.Streaming.{stream-whole, stream-no-book, stream-no-ranks}
 use borrow.Author.Needs.{needs}
 use Rattle.book.proofs.stream.Statement.{statement}
 use Rattle.book.proofs.stream.Tie as tie
@@ -12,14 +13,29 @@ stopped-requires c κs = search needs
 
 returns : tie.Need-returns
 returns c =
-    let args = c .before .before .before .before .before .args in
+    let args = c .before .before .before .before .before .before .args in
     let is = c .stopped .ensures in (
       (omega (arith, ap (λ r. r .consumed) is), omega (arith, ap (λ r. r .written) is)),
-      (λ i. (is i, now (args .book), now (args .out))) ∙ stream-no-book (now (args .book)) (args .tickets) (now (args .input)) (now (args .out)) (c .before .if1 .taken),
+      (λ i. (is i, now (args .book), now (args .out))) ∙ stream-no-book (now (args .book)) (args .tickets) (now (args .ranks)) (now (args .input)) (now (args .out)) (c .before .if1 .taken),
+    )
+
+is-permutation-requires : tie.Need-is-permutation-requires
+is-permutation-requires c κs = search needs
+
+stopped-requires-2 : tie.Need-stopped-requires-2
+stopped-requires-2 c κs = search needs
+
+returns-2 : tie.Need-returns-2
+returns-2 c =
+    let args = c .before .before .before .before .before .before .before .before .args in
+    let is = c .stopped2 .ensures in
+    let wrong = sym (c .before .before .is-permutation .ensures) ∙ not-true _ (c .before .if2 .taken) in (
+      (omega (arith, ap (λ r. r .consumed) is), omega (arith, ap (λ r. r .written) is)),
+      (λ i. (is i, now (args .book), now (args .out))) ∙ stream-no-ranks (now (args .book)) (args .tickets) (now (args .ranks)) (now (args .input)) (now (args .out)) (c .before .before .before .if1 .left) wrong,
     )
 
 answer-frames-requires : tie.Need-answer-frames-requires
-answer-frames-requires c κs = search needs
+answer-frames-requires c κs = (c .before .before .before .before .if1 .left, sym (c .before .before .before .is-permutation .ensures) ∙ not-false _ (c .before .before .if2 .left))
 
 same-length : tie.Need-same-length
 same-length c = search needs
@@ -27,14 +43,24 @@ same-length c = search needs
 same-length-2 : tie.Need-same-length-2
 same-length-2 c = search needs
 
-returns-2 : tie.Need-returns-2
-returns-2 c =
-    let args = c .before .before .before .before .before .before .before .before .before .before .before .args in
+returns-3 : tie.Need-returns-3
+returns-3 c =
+    let args = c .before .before .before .before .before .before .before .before .before .before .before .before .before .before .args in
     let answered = c .before .before .before .before .answer-frames .ensures in (
       answered .0,
-      answered .1 ∙ stream-whole (now (args .book)) (args .tickets) (now (args .input)) (now (args .out)) (c .before .before .before .before .before .before .before .if1 .left),
+      answered .1 ∙ stream-whole (now (args .book)) (args .tickets) (now (args .ranks)) (now (args .input)) (now (args .out)) (c .before .before .before .before .before .before .before .before .before .if1 .left) (sym (c .before .before .before .before .before .before .before .before .is-permutation .ensures) ∙ not-false _ (c .before .before .before .before .before .before .before .if2 .left)),
     )
 
 pub stream-spec : {M : Type 1} → statement M
 stream-spec =
-    tie.close (tie.spec stopped-requires returns answer-frames-requires same-length same-length-2 returns-2)
+    tie.close
+    (tie.spec
+    stopped-requires
+    returns
+    is-permutation-requires
+    stopped-requires-2
+    returns-2
+    answer-frames-requires
+    same-length
+    same-length-2
+    returns-3)

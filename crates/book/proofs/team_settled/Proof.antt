@@ -12,18 +12,19 @@ opens-edit-requires c κs = search needs
 
 open-edit-requires : tie.Need-open-edit-requires
 open-edit-requires c κs =
-    let start = c .before .before .before .before in
-    edit-fields (now (start .args .book)) (start .args .ticket) (now (start .args .part)) (start .args .kind) (start .args .team) (sym (c .before .opens-edit .ensures) ∙ c .if1 .taken) (start .pre)
+    let start = c .before .before .before .before .before in
+    (edit-fields (now (start .args .book)) (start .args .ticket) (now (start .args .ranks)) (now (start .args .part)) (start .args .kind) (start .args .team) (sym (c .before .opens-edit .ensures) ∙ c .if1 .taken) (start .pre .0), start .pre .1)
 
 returns : tie.Need-returns
 returns c =
-    let start = c .before .before .before .before .before in
+    let start = c .before .before .before .before .before .before in
     (λ i. (c .open-edit .ensures i, now (start .args .book)))
-    ∙ team-opens-edit (now (start .args .book)) (start .args .ticket) (now (start .args .part)) (start .args .kind) (start .args .team) (sym (c .before .before .opens-edit .ensures) ∙ c .before .if1 .taken)
+    ∙ team-opens-edit (now (start .args .book)) (start .args .ticket) (now (start .args .ranks)) (now (start .args .part)) (start .args .kind) (start .args .team) (sym (c .before .before .opens-edit .ensures) ∙ c .before .if1 .taken)
 
 team-frame-requires : tie.Need-team-frame-requires
 team-frame-requires c κs =
-    (c .before .before .before .before .before .pre, (λ known. absurd (false≢true known)), sym (c .before .before .opens-edit .ensures) ∙ c .before .if1 .left)
+    let start = c .before .before .before .before .before .before in
+    (start .pre .0, (λ known. absurd (false≢true known)), sym (c .before .before .opens-edit .ensures) ∙ c .before .if1 .left, start .pre .1)
 
 same-length : tie.Need-same-length
 same-length c = search needs

@@ -6,10 +6,10 @@ use Rattle.lists.proofs.dispatch_all.Statement.{statement}
 use Rattle.lists.proofs.dispatch_all.Tie as tie
 
 abbrev Inv-loop : tie.InvT-loop
-Inv-loop words₀ store₀ filled₀ out₀ input tickets₀ at₀ words store filled out tickets at = at ≤ length input
+Inv-loop words₀ store₀ filled₀ ranks₀ out₀ input state₀ at₀ words store filled ranks out state at = (at ≤ length input) × (state .ranked ≤ 40)
 
 abbrev μ-loop : tie.MeasureT-loop
-μ-loop words₀ store₀ filled₀ out₀ input tickets₀ at₀ words store filled out tickets at = length input - at
+μ-loop words₀ store₀ filled₀ ranks₀ out₀ input state₀ at₀ words store filled ranks out state at = length input - at
 
 fresh-requires : tie.Need-fresh-requires Inv-loop μ-loop
 fresh-requires c κs = search needs

@@ -15,9 +15,9 @@ same-length c = search needs
 
 returns : tie.Need-returns
 returns c =
-    let args = c .before .before .before .before .before .before .before .before .args in
+    let args = c .before .before .before .before .before .before .before .before .before .args in
     let ended = c .before .before .at-end .ensures in
-    ((omega arith, ended .1), serves-end (now (args .book)) (args .tickets) (now (args .buffer)) (args .have) (args .got) (now (args .out)) (c .before .before .before .before .if1 .taken) (ended .0))
+    ((omega arith, ended .1), serves-end (now (args .book)) (args .tickets) (now (args .ranks)) (now (args .buffer)) (args .have) (args .got) (now (args .out)) (c .before .before .before .before .if1 .taken) (ended .0))
 
 add-serve-front : tie.Need-add-serve-front
 add-serve-front c = search needs
@@ -36,9 +36,9 @@ same-length-4 c = search needs
 
 returns-2 : tie.Need-returns-2
 returns-2 c =
-    let args = c .before .before .before .before .before .before .before .before .before .before .before .before .before .before .args in
+    let args = c .before .before .before .before .before .before .before .before .before .before .before .before .before .before .before .args in
     let answered = c .before .before .before .before .before .before .serve-front .ensures in
-    ((answered .0 .1, answered .0 .2), answered .1 ∙ serves-read (now (args .book)) (args .tickets) (now (args .buffer)) (args .have) (args .got) (now (args .out)) (c .before .before .before .before .before .before .before .before .before .before .if1 .left))
+    ((answered .0 .1, answered .0 .2), answered .1 ∙ serves-read (now (args .book)) (args .tickets) (now (args .ranks)) (now (args .buffer)) (args .have) (args .got) (now (args .out)) (c .before .before .before .before .before .before .before .before .before .before .if1 .left))
 
 pub after-read-spec : {M : Type 1} → statement M
 after-read-spec =

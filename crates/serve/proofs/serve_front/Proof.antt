@@ -16,10 +16,10 @@ goes-on-requires c κs = search needs
 
 put-torn-requires : tie.Need-put-torn-requires
 put-torn-requires c κs =
-    let start = c .before .before .before .before .before .before .before .before .before .before .before .before .before .before .before in
+    let start = c .before .before .before .before .before .before .before .before .before .before .before .before .before .before .before .before in
     let args = start .args in
     let answered = c .before .before .before .before .before .before .before .before .stream-front in
-    room-to-refuse (now (args .book)) (args .tickets) (now (args .buffer)) (args .have) (now (args .out)) _ _ _ (answered .ensures .1) (start .pre .1) (start .pre .0) (start .pre .2)
+    room-to-refuse (now (args .book)) (args .tickets) (now (args .ranks)) (now (args .buffer)) (args .have) (now (args .out)) _ _ _ (answered .ensures .1) (start .pre .1) (start .pre .2) (start .pre .0) (start .pre .3)
     (sym (c .before .before .goes-on .ensures) ∙ not-true _ (c .before .if1 .taken))
 
 same-length : tie.Need-same-length
@@ -33,13 +33,13 @@ same-length-3 c = search needs
 
 returns : tie.Need-returns
 returns c =
-    let start = c .before .before .before .before .before .before .before .before .before .before .before .before .before .before .before .before .before .before in
+    let start = c .before .before .before .before .before .before .before .before .before .before .before .before .before .before .before .before .before .before .before in
     let args = start .args in
     let answered = c .before .before .before .before .before .before .before .before .before .before .before .stream-front in
     let put = c .before .before .put-torn .ensures in
     let ends = sym (c .before .before .before .before .before .goes-on .ensures) ∙ not-true _ (c .before .before .before .before .if1 .taken) in (
-      (omega arith, omega arith, refused-inside (now (args .book)) (args .tickets) (now (args .buffer)) (args .have) (now (args .out)) _ _ _ (answered .ensures .1) (start .pre .1) (start .pre .0) (start .pre .2) put),
-      serves-refused (now (args .book)) (args .tickets) (now (args .buffer)) (args .have) (now (args .out)) _ _ _ (answered .ensures .1) put ends,
+      (omega arith, omega arith, refused-inside (now (args .book)) (args .tickets) (now (args .ranks)) (now (args .buffer)) (args .have) (now (args .out)) _ _ _ (answered .ensures .1) (start .pre .1) (start .pre .2) (start .pre .0) (start .pre .3) put),
+      serves-refused (now (args .book)) (args .tickets) (now (args .ranks)) (now (args .buffer)) (args .have) (now (args .out)) _ _ _ (answered .ensures .1) put ends,
     )
 
 shift-requires : tie.Need-shift-requires
@@ -56,13 +56,13 @@ same-length-6 c = search needs
 
 returns-2 : tie.Need-returns-2
 returns-2 c =
-    let start = c .before .before .before .before .before .before .before .before .before .before .before .before .before .before .before .before .before .before in
+    let start = c .before .before .before .before .before .before .before .before .before .before .before .before .before .before .before .before .before .before .before in
     let args = start .args in
     let answered = c .before .before .before .before .before .before .before .before .before .before .before .stream-front in
     let shifts = c .before .before .shift .ensures in
     let goes = sym (c .before .before .before .before .before .goes-on .ensures) ∙ not-false _ (c .before .before .before .before .if1 .left) in
-    let few = few-kept (now (args .book)) (args .tickets) (now (args .buffer)) (args .have) (now (args .out)) _ _ _ (answered .ensures .1) (start .pre .1) (start .pre .0) (start .pre .2) goes in
-    ((search needs, omega (arith, few, shifts .0), answered .ensures .0 .1), serves-on (now (args .book)) (args .tickets) (now (args .buffer)) (args .have) (now (args .out)) _ _ _ (answered .ensures .1) _ _ (shifts .0) (shifts .1) goes)
+    let few = few-kept (now (args .book)) (args .tickets) (now (args .ranks)) (now (args .buffer)) (args .have) (now (args .out)) _ _ _ (answered .ensures .1) (start .pre .1) (start .pre .2) (start .pre .0) (start .pre .3) goes in
+    ((search needs, omega (arith, few, shifts .0), answered .ensures .0 .1), serves-on (now (args .book)) (args .tickets) (now (args .ranks)) (now (args .buffer)) (args .have) (now (args .out)) _ _ _ (answered .ensures .1) _ _ (shifts .0) (shifts .1) goes)
 
 pub serve-front-spec : {M : Type 1} → statement M
 serve-front-spec =

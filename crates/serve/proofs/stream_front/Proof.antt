@@ -29,10 +29,10 @@ same-length-2 c = search needs
 
 returns : tie.Need-returns
 returns c =
-    let args = c .before .before .before .before .before .before .before .before .before .before .before .args in
+    let args = c .before .before .before .before .before .before .before .before .before .before .before .before .args in
     let answered = c .before .before .before .before .stream .ensures in
     let all : args .have - 0 ≡ args .have = omega arith in
-    ((search needs, search needs), answered .1 ∙ ap (λ (n : ℕ). streamOf (now (args .book)) (args .tickets) (take n (now (args .buffer))) (now (args .out))) all)
+    ((search needs, search needs), answered .1 ∙ ap (λ (n : ℕ). streamOf (now (args .book)) (args .tickets) (now (args .ranks)) (take n (now (args .buffer))) (now (args .out))) all)
 
 pub stream-front-spec : {M : Type 1} → statement M
 stream-front-spec =

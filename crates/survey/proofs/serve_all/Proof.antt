@@ -9,10 +9,10 @@ use Rattle.survey.proofs.serve_all.Statement.{statement}
 use Rattle.survey.proofs.serve_all.Tie as tie
 
 abbrev Inv-loop : tie.InvT-loop
-Inv-loop book₀ buffer₀ out₀ tickets₀ have₀ turns₀ book buffer out tickets have turns = (length book ≡ length book₀) × (length buffer ≡ length buffer₀) × (length out ≡ length out₀) × (have < longestFrame)
+Inv-loop book₀ ranks buffer₀ out₀ tickets₀ have₀ turns₀ book buffer out tickets have turns = (length book ≡ length book₀) × (length buffer ≡ length buffer₀) × (length out ≡ length out₀) × (have < longestFrame)
 
 abbrev μ-loop : tie.MeasureT-loop
-μ-loop book₀ buffer₀ out₀ tickets₀ have₀ turns₀ book buffer out tickets have turns = turns
+μ-loop book₀ ranks buffer₀ out₀ tickets₀ have₀ turns₀ book buffer out tickets have turns = turns
 
 fresh-requires : tie.Need-fresh-requires Inv-loop μ-loop
 fresh-requires c κs = search needs
