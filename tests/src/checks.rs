@@ -444,14 +444,15 @@ fn a_leg_is_quoted_in_either_form() {
     }
 }
 
-/// No stream reads a leg or checks a book: the lent text and the stored books do.
+/// No stream reads a leg or checks a book: the lent calls and the stored books do.
 #[test]
 fn other_readers_of_plumb_legs_are_told_by_readings_and_books() {
     let stored = books::stored();
     let right = books::answered(&stored, None).unwrap();
+    let lent_calls = lent::stored();
+    let told = lent::answered(&lent_calls, None);
     for fault in [Fault::PlumbReads, Fault::PlumbUnread] {
-        let told = lent::told(LENT[0], Some(fault)).unwrap();
-        assert!(lent::check(&told).is_err(), "{fault:?}");
+        assert_ne!(lent::answered(&lent_calls, Some(fault)), told, "{fault:?}");
         assert_ne!(books::answered(&stored, Some(fault)).unwrap(), right, "{fault:?}");
         let input = streams::plumb(5, 2_000);
         assert_eq!(answers(fault, &input), survey(&input));
@@ -626,24 +627,18 @@ fn reading_is_the_inverse_of_writing() {
     }
 }
 
-const LENT: [&str; 2] =
-    [include_str!("../../crates/lent/stdout"), include_str!("../../crates/lent_views/stdout")];
-
 #[test]
-fn the_lent_cases_are_as_stored() {
-    LENT.iter().for_each(|text| drop(lent::check(text).unwrap()));
+fn the_lent_calls_are_as_stored() {
+    let input = include_bytes!("../../crates/lent/stdin");
+    lent::check(input, include_str!("../../crates/lent/stdout")).unwrap();
 }
 
 /// No stream has such a mark, but both edits and views are lent one.
 #[test]
 fn a_mark_of_sixteen_is_told_by_lent_calls() {
-    for text in LENT {
-        let told = lent::told(text, Some(Fault::SixteenNamed)).unwrap();
-        let sixteen =
-            told.lines().filter(|line| line.starts_with("= output 06 00 82 00 07 00 10 00"));
-        assert_eq!(sixteen.count(), 1);
-        assert!(lent::check(&told).is_err());
-    }
+    let told = lent::answered(&lent::stored(), Some(Fault::SixteenNamed));
+    let waits = "returns 8 : 06 00 82 00 07 00 10 00";
+    assert_eq!(told.lines().filter(|line| line.starts_with(waits)).count(), 2);
     let input = streams::fuzz(5, 2_000);
     assert_eq!(answers(Fault::SixteenNamed, &input), survey(&input));
 }

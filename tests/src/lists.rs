@@ -277,7 +277,7 @@ impl Run {
     }
 }
 
-fn in_hex(bytes: &[u8]) -> String {
+pub fn in_hex(bytes: &[u8]) -> String {
     bytes.iter().map(|byte| format!(" {byte:02X}")).collect()
 }
 

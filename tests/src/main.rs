@@ -18,6 +18,7 @@ mod rounds;
 mod serve;
 mod shelves;
 mod streams;
+mod tables;
 mod tally;
 mod wrong;
 
@@ -31,7 +32,7 @@ const USAGE: &str = "usage:
   tests compare PROGRAM [--seed N] [--frames N] [--patience SECONDS] [-- ARGUMENT ...]
   tests whole-case PROGRAM
   tests stored DIR [--check]
-  tests lent FILE [--check]
+  tests lent DIR [--check]
   tests books DIR [--check]
   tests lists DIR [--check | --seed N | --wrong FAULT]
   tests serve [--wrong FAULT]";
@@ -59,8 +60,8 @@ fn run(words: &[&str]) -> Result<String, String> {
         ["whole-case", path] => whole_case(path),
         ["stored", dir] => store(Path::new(dir)),
         ["stored", dir, "--check"] => check_stored(Path::new(dir)),
-        ["lent", file] => lent::told(&read_text(file)?, None),
-        ["lent", file, "--check"] => lent::check(&read_text(file)?),
+        ["lent", dir] => store_lent(Path::new(dir)),
+        ["lent", dir, "--check"] => check_lent(Path::new(dir)),
         ["books", dir] => store_books(Path::new(dir)),
         ["books", dir, "--check"] => check_books(Path::new(dir)),
         ["lists", dir] => store_lists(Path::new(dir), 0),
@@ -136,6 +137,21 @@ fn check_stored(dir: &Path) -> Result<String, String> {
     tally.add(&input, &output);
     tally.complete(true)?;
     Ok(format!("stored: {}", tally.summary()))
+}
+
+/// Writes calls that a stream can't reach, and what the model says of each.
+fn store_lent(dir: &Path) -> Result<String, String> {
+    let calls = lent::stored();
+    let failed = |error: std::io::Error| error.to_string();
+    fs::create_dir_all(dir).map_err(failed)?;
+    fs::write(dir.join("stdin"), lent::input(&calls)).map_err(failed)?;
+    fs::write(dir.join("stdout"), lent::answered(&calls, None)).map_err(failed)?;
+    check_lent(dir)
+}
+
+fn check_lent(dir: &Path) -> Result<String, String> {
+    let input = fs::read(dir.join("stdin")).map_err(|error| format!("stdin: {error}"))?;
+    lent::check(&input, &read_text(&dir.join("stdout").to_string_lossy())?)
 }
 
 /// Writes books to be checked, and what the model says of each.

@@ -98,12 +98,21 @@ fn the_stored_files_are_checked() {
 }
 
 #[test]
-fn a_lent_text_is_checked() {
-    let file = folder("lent.txt");
-    let text = include_str!("../../crates/lent/stdout").replace("= returns 12", "= returns 6");
-    std::fs::write(&file, text).expect("written");
-    let output = tests(&["lent", file.to_str().expect("a readable name"), "--check"]);
-    assert!(!output.status.success() && said(&output).contains("model: = returns 12"));
+fn the_stored_lent_calls_are_checked() {
+    let dir = folder("lent");
+    let name = dir.to_str().expect("a readable name");
+    assert!(tests(&["lent", name]).status.success());
+    let output = std::fs::read_to_string(dir.join("stdout")).expect("stored");
+    let wrong = output.replacen("returns 12", "returns 6", 1);
+    std::fs::write(dir.join("stdout"), wrong).expect("written");
+    let checked = tests(&["lent", name, "--check"]);
+    assert!(!checked.status.success() && said(&checked).contains("model:   returns 12"));
+    std::fs::write(dir.join("stdout"), output).expect("written");
+    assert!(tests(&["lent", name, "--check"]).status.success());
+    let mut input = std::fs::read(dir.join("stdin")).expect("stored");
+    input.pop();
+    std::fs::write(dir.join("stdin"), input).expect("written");
+    assert!(!tests(&["lent", name, "--check"]).status.success());
 }
 
 #[test]

@@ -1,3 +1,4 @@
-pub mod Going
-pub mod Mirrored
+pub mod Stored
 pub mod Turning
+pub mod Stepping
+pub mod Answering

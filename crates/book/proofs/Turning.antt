@@ -1,72 +1,54 @@
--- One turn of the stream, from what the code has there: what the frame settles, the ticket stored in its slot and the answer written.
+-- One turn of the stream, from what the code has there: what the frame leaves in its slot, the words, and its answer.
 use native.Mathlib.Omega.{arith}
 use Prim.Native.Nat.{ℕ, zero, suc, _+_, _-_, _<_, _≤_}
 use mathlib.Core.Path.{_≡_, refl, sym, ap, subst, _∙_}
 use mathlib.Core.Bool.{Bool, true, false}
-use borrow.Author.Tests.{lt-ltb}
 use mathlib.Core.List.{List}
-use lib.ListN.{length, take, drop}
-use Rattle.legs.specs.Positions.{Ranks, Accepted}
+use borrow.Author.Tests.{lt-ltb}
+use lib.ListN.{length, set, take, drop}
 use Rattle.words.specs.Words.{Words, wordsInBook}
-use Rattle.tickets.specs.declared.Ticket.{Ticket}
-use Rattle.tickets.specs.declared.Tickets.{Tickets}
-use Rattle.tickets.specs.Tickets.{ticketOf, withTicket, hasTicket, isView, wellMade}
-use Rattle.tickets.specs.Going.{isEdit}
+use Rattle.legs.specs.Positions.{Ranks, Accepted}
+use Rattle.tickets.specs.declared.Ticket as Slot
+use Rattle.tickets.specs.declared.Tickets as Table
+use Rattle.tickets.specs.Tickets.{Ticket, ticketOf, withTicket, SlotWellMade, TableWellMade}
+use Rattle.tickets.specs.Table.{gathered, tableWith, tableOf, slotOf, ElsewhereSame}
+use Rattle.tickets.proofs.Tables.{slot-gathered}
+use Rattle.tickets.proofs.MadeTables.{with-well-made}
 use Rattle.frames.specs.Numbers.{Bytes, areBytes}
 use Rattle.frames.proofs.Bytes.{bytes-after}
-use Rattle.frames.specs.Requests.{partAfterKind, stepKind}
-use Rattle.frames.specs.Answers.{answerFrame, longestAnswer, written}
+use Rattle.frames.specs.Answers.{answerFrame, longestAnswer, written, roomIn, withRoom, PutAt}
 use Rattle.calls.specs.declared.Aim.{Aim}
-use Rattle.calls.specs.declared.Settled.{Settled}
-use Rattle.calls.specs.declared.Streamed.{Streamed}
-use Rattle.calls.specs.declared.Next.{Next}
-use Rattle.calls.specs.declared.Next.the-variants.{Frame}
-use Rattle.calls.specs.Way.{AimKnown, SlotWellMade, TableWellMade, aimOf, slotOf, stepsEdit, settledBy}
 use Rattle.calls.specs.declared.Stop.the-variants.{MoreInput}
-use Rattle.calls.specs.Stream.{nextAt, NextInside, roomIn, withRoom, PutAt, streamed, streamFrom}
-use Rattle.calls.proofs.WellMadeTables.{bytes-before, with-well-made, settled-well-made}
+use Rattle.calls.specs.Way as way
+use Rattle.calls.specs.Way.{Settled, AimKnown, aimOf, settledBy}
+use Rattle.calls.specs.Stream.{Streamed, nextAt, streamed, streamFrom}
+use Rattle.calls.proofs.WellMadeTables.{bytes-before, settled-well-made}
 use Rattle.calls.proofs.Streaming as streaming
-use Rattle.book.proofs.Going.{slot-below, steps-said, edit-stands}
-use Rattle.book.proofs.Mirrored.{ShowsEdit, ShowsEdits}
-
--- The frame at a place, as the code cuts it out.
-abbrev pub frameAt : Bytes → ℕ → ℕ → Bytes
-frameAt input at size = take (at + size - at) (drop at input)
-
--- The point of the code at which something is to be shown.
-abbrev pub Point : {A : Type 0} {B : A → Type 0} → ((c : A) → B c) → Type 0
-Point {A} shown = A
+use Rattle.dispatch.specs.Ahead.{frameAt, FrameAhead}
+use Rattle.dispatch.proofs.Aiming.{slot-below}
+use Rattle.book.proofs.Stored.{stored-anew}
 
 -- What the definition makes of what is left, for as many frames as may come: at most one for each byte.
-pub record Left (ranks : Ranks) (input : Bytes) (all : Streamed × Words × Bytes) (words : Words) (out : Bytes) (tickets : Tickets) (at filled : ℕ) : Type 0 where
+pub record Left (ranks : Ranks) (input : Bytes) (all : Streamed × Words × Bytes) (words : Words) (out : Bytes) (table : Table.Tickets) (at filled : ℕ) : Type 0 where
   pub most : ℕ
   pub enough : length input - at ≤ most
-  pub is : streamFrom most words tickets ranks input out at filled ≡ all
+  pub is : streamFrom most words (tableOf table) ranks input out at filled ≡ all
 
--- The loop's invariant: what the definition makes of what is left is what it makes of the whole; and where all tickets are known to be well made they stay so, and the mirror shows those of edits.
-abbrev pub Goes : Ranks → Bytes → ℕ → Streamed × Words × Bytes → Bool → Words → Bytes → Tickets → List ℕ → ℕ → ℕ → Type 0
-Goes ranks input long all known words out tickets mirror at filled =
-    (length words ≡ wordsInBook)
-    × (at ≤ length input)
-    × (filled ≤ length out)
-    × (length out ≡ long)
-    × Left ranks input all words out tickets at filled
-    × (known ≡ true → TableWellMade tickets)
-    × (known ≡ true → ShowsEdits mirror tickets)
-    × Accepted ranks
+-- The loop's invariant: what the definition makes of what is left is what it makes of the whole; and where all tickets are known to be well made they stay so.
+pub record Goes (ranks : Ranks) (input : Bytes) (long : ℕ) (all : Streamed × Words × Bytes) (known : Bool) (words : Words) (out : Bytes) (table : Table.Tickets) (at filled : ℕ) : Type 0 where
+  pub book : length words ≡ wordsInBook
+  pub inside : at ≤ length input
+  pub fits : filled ≤ length out
+  pub same-length : length out ≡ long
+  pub left : Left ranks input all words out table at filled
+  pub made : known ≡ true → TableWellMade (tableOf table)
+  pub accepted : Accepted ranks
 
 -- Where no byte is left it has ended.
-pub ended : (most : ℕ) (words : Words) (tickets : Tickets) (ranks : Ranks) (input out : Bytes) (at filled : ℕ) → length input ≤ at → streamFrom most words tickets ranks input out at filled ≡ (streamed tickets at filled MoreInput, words, out)
+pub ended : (most : ℕ) (words : Words) (table : Table.Tickets) (ranks : Ranks) (input out : Bytes) (at filled : ℕ) → length input ≤ at → streamFrom most words (tableOf table) ranks input out at filled ≡ (streamed (tableOf table) at filled MoreInput, words, out)
 unfolding streamFrom nextAt
-ended zero words tickets ranks input out at filled none = refl
-ended (suc most) words tickets ranks input out at filled none = rw (lt-ltb (length input - at) 2 (omega arith)) refl
-
--- The aim of a frame, and what is known by it.
-abbrev pub Aimed : Bytes → Aim → Type 0
-Aimed frame aim = (aim ≡ aimOf frame) × AimKnown frame aim
-
-pub aimed-as : (frame : Bytes) {found aim : Aim} → Aimed frame found → found ≡ aim → Aimed frame aim
-aimed-as frame aimed is = (sym is ∙ aimed .0, subst (AimKnown frame) is (aimed .1))
+ended zero words table ranks input out at filled none = refl
+ended (suc most) words table ranks input out at filled none = rw (lt-ltb (length input - at) 2 (omega arith)) refl
 
 -- What the code has where it answers a frame: the invariant, the frame found, room for its answer, and its aim.
 pub record Turn : Type 0 where
@@ -77,33 +59,27 @@ pub record Turn : Type 0 where
   pub known : Bool
   pub words : Words
   pub out : Bytes
-  pub tickets : Tickets
-  pub mirror : List ℕ
+  pub table : Table.Tickets
   pub at : ℕ
   pub filled : ℕ
-  pub goes : Goes ranks input long all known words out tickets mirror at filled
+  pub goes : Goes ranks input long all known words out table at filled
   pub bytes : areBytes input ≡ true
   pub some : at < length input
-  pub found : Next
-  pub found-is : (found ≡ nextAt input at) × NextInside input at found
   pub size : ℕ
-  pub sized : found ≡ Frame size
-  pub room : longestAnswer ≤ length out - filled
+  pub ahead : FrameAhead input at (length out - filled) size
   pub aim : Aim
-  pub aimed : Aimed (frameAt input at size) aim
+  pub aimed : aimOf (frameAt input at size) ≡ aim
+  pub aim-known : AimKnown (frameAt input at size) aim
 
--- The frame there, its part after the kind, its slot, and the ticket in it.
+-- The frame there, its slot, and the ticket in it.
 abbrev pub frameIn : Turn → Bytes
 frameIn turn = frameAt (turn .input) (turn .at) (turn .size)
 
-abbrev pub partIn : Turn → Bytes
-partIn turn = partAfterKind (frameIn turn)
-
-abbrev pub slotIn : Turn → ℕ
-slotIn turn = slotOf (turn .aim)
+abbrev pub teamOf : Turn → ℕ
+teamOf turn = way.slotOf (turn .aim)
 
 abbrev pub ticketIn : Turn → Ticket
-ticketIn turn = ticketOf (turn .tickets) (slotIn turn)
+ticketIn turn = gathered (turn .table .targets) (teamOf turn) (slotOf (turn .table) (teamOf turn))
 
 -- What the aimed frame settles.
 abbrev pub settledIn : Turn → Settled × Words
@@ -111,66 +87,54 @@ settledIn turn = settledBy (turn .words) (ticketIn turn) (turn .ranks) (frameIn 
 
 -- The ticket in its slot is well made, where all are known to be.
 pub slot-known-made : (turn : Turn) → turn .known ≡ true → SlotWellMade (ticketIn turn)
-slot-known-made turn known = turn .goes .5 known (slotIn turn) (slot-below (frameIn turn) (turn .aim) (turn .aimed .1))
+slot-known-made turn known =
+    subst SlotWellMade (slot-gathered (turn .table) (teamOf turn)) (turn .goes .made known (teamOf turn) (slot-below (frameIn turn) (turn .aim) (turn .aim-known)))
 
--- What is known where an edit's ticket is stepped.
-pub record EditStands (known : Bool) (ticket : Ticket) (kind : ℕ) : Type 0 where
-  pub all-known : known ≡ true
-  pub is-edit : isEdit (ticket .phase) ≡ true
-  pub stands : hasTicket (ticket .phase) ≡ true
-  pub made : wellMade ticket ≡ true
-  pub edit : isView (ticket .phase) ≡ false
-  pub step : kind ≡ stepKind
+-- By what the frame leaves, the loop goes on.
+module _ (turn : Turn) (slot : Slot.Ticket) (targets : List ℕ) (after : Words) (place : ℕ) (output : Bytes)
+    (left : gathered targets (teamOf turn) slot ≡ settledIn turn .0 .ticket) (others : ElsewhereSame (turn .table .targets) targets (teamOf turn))
+    (worded : after ≡ settledIn turn .1) (whole : length after ≡ wordsInBook)
+    (answered : PutAt (turn .out) (turn .filled) (answerFrame (settledIn turn .0 .answer)) place output) where
+  abbrev table-after : Table.Tickets
+  table-after = tableWith (set (turn .table .slots) (teamOf turn) slot) targets
 
-pub edit-known : (turn : Turn) (kind : ℕ) → stepsEdit (ticketIn turn) (turn .known) kind ≡ true → EditStands (turn .known) (ticketIn turn) kind
-edit-known turn kind steps =
-    let (step, known, edit) = steps-said (ticketIn turn) (turn .known) kind steps in
-    let (stands, no-view) = edit-stands (ticketIn turn .phase) edit in
-    record { all-known = known; is-edit = edit; stands = stands; made = slot-known-made turn known stands; edit = no-view; step = step }
+  stored : tableOf table-after ≡ withTicket (tableOf (turn .table)) (teamOf turn) (settledIn turn .0 .ticket)
+  stored = stored-anew (turn .table .slots) (turn .table .targets) targets (teamOf turn) slot others ∙ ap (withTicket (tableOf (turn .table)) (teamOf turn)) left
 
--- The mirror shows the ticket in its slot, if it is an edit's, where all are known to be well made.
-pub slot-shown : (turn : Turn) → turn .known ≡ true → ShowsEdit (turn .mirror) (slotIn turn) (ticketIn turn)
-slot-shown turn known = turn .goes .6 known (slotIn turn)
+  frame-is : frameIn turn ≡ take (turn .size) (drop (turn .at) (turn .input))
+  frame-is = ap (λ (k : ℕ). take k (drop (turn .at) (turn .input))) (streaming.add-less (turn .at) (turn .size))
 
--- An answer put, from what was written in the room left.
-pub put-at : (out : Bytes) (at : ℕ) (answer : Bytes) (count : ℕ) (room output : Bytes) → at ≤ length out → longestAnswer ≤ length out - at
-    → ((count, room) ≡ written (roomIn out at) answer) × (count ≤ longestAnswer) → output ≡ withRoom out at room → length output ≡ length out
-    → PutAt out at answer (at + count) output
-put-at out at answer count room output inside enough (sent, most) is long =
-    ((ap (λ p. at + p .0) sent, omega arith), (is ∙ ap (λ p. withRoom out at (p .1)) sent, long))
+  slotted : ticketIn turn ≡ ticketOf (tableOf (turn .table)) (teamOf turn)
+  slotted = sym (slot-gathered (turn .table) (teamOf turn))
 
--- By what the frame settles, stored and written, the loop goes on.
-module _ (turn : Turn) (mirror : List ℕ) {done : Settled} {after : Words} {next : Tickets} {place : ℕ} {output : Bytes} where
-  pub turned : _≡_ {A = Settled × Words} (done, after) (settledIn turn)
-      → next ≡ withTicket (turn .tickets) (slotIn turn) (done .ticket)
-      → (turn .known ≡ true → ShowsEdits mirror next)
-      → length after ≡ wordsInBook
-      → PutAt (turn .out) (turn .filled) (answerFrame (done .answer)) place output
-      → Goes (turn .ranks) (turn .input) (turn .long) (turn .all) (turn .known) after output next mirror (turn .at + turn .size) place
-  turned settles stored shown whole ((counted, fits), (filled, long)) =
-      let frame-is : frameIn turn ≡ take (turn .size) (drop (turn .at) (turn .input)) = ap (λ (k : ℕ). take k (drop (turn .at) (turn .input))) (streaming.add-less (turn .at) (turn .size)) in
-      let frame-bytes = bytes-before (turn .at + turn .size - turn .at) (drop (turn .at) (turn .input)) (bytes-after (turn .at) (turn .input) (turn .bytes)) in
-      let inside = subst (NextInside (turn .input) (turn .at)) (turn .sized) (turn .found-is .1) in
-      let left = turn .goes .4 in
-      let enough = left .enough in
-      let some : 0 < left .most = omega (arith, enough, turn .some) in (
-        whole,
-        inside .1,
-        omega (arith, fits, long),
-        long ∙ turn .goes .3,
-        record {
-          most = left .most - 1;
-          enough = omega (arith, enough, inside .0, inside .1);
+  settles : settledIn turn ≡ settledBy (turn .words) (ticketOf (tableOf (turn .table)) (teamOf turn)) (turn .ranks) (take (turn .size) (drop (turn .at) (turn .input))) (turn .aim)
+  settles i = settledBy (turn .words) (slotted i) (turn .ranks) (frame-is i) (turn .aim)
+
+  pub turned : Goes (turn .ranks) (turn .input) (turn .long) (turn .all) (turn .known) after output (tableWith (set (turn .table .slots) (teamOf turn) slot) targets) (turn .at + turn .size) place
+  turned =
+      let ((counted, fits), (filled, long)) = answered in
+      let before = turn .goes .left in
+      let enough = before .enough in
+      let some : 0 < before .most = omega (arith, enough, turn .some) in
+      let ahead = turn .ahead in
+      record {
+        book = whole;
+        inside = ahead .inside;
+        fits = omega (arith, fits, long);
+        same-length = long ∙ turn .goes .same-length;
+        left = record {
+          most = before .most - 1;
+          enough = omega (arith, enough, ahead .least, ahead .inside);
           is =
-              streaming.turn (turn .words) (turn .tickets) next (turn .ranks) (turn .input) (turn .out) (turn .at) (turn .filled) (left .most) (turn .size) (turn .aim) (slotIn turn) done after (done .answer) place output
-              some (sym (turn .found-is .0) ∙ turn .sized) (turn .room) (turn .goes .0) (turn .goes .7)
-              (turn .aimed .0 ∙ ap aimOf frame-is) refl (settles ∙ ap (λ f. settledBy (turn .words) (ticketIn turn) (turn .ranks) f (turn .aim)) frame-is) stored refl counted filled
-              ∙ left .is;
-        },
-        λ known.
+              streaming.turn (turn .words) (tableOf (turn .table)) (tableOf table-after) (turn .ranks) (turn .input) (turn .out) (turn .at) (turn .filled) (before .most) (turn .size) (turn .aim) (teamOf turn) (settledIn turn .0) after (settledIn turn .0 .answer) place output
+              some (ahead .found) (ahead .answerable) (turn .goes .book) (turn .goes .accepted)
+              (sym (turn .aimed) ∙ ap aimOf frame-is) refl ((λ i. (settledIn turn .0, worded i)) ∙ settles) stored refl counted filled
+              ∙ before .is;
+        };
+        made = λ known.
             subst TableWellMade (sym stored)
-            (with-well-made (turn .tickets) (slotIn turn) (done .ticket) (turn .goes .5 known)
-            (subst SlotWellMade (λ i. sym settles i .0 .ticket) (settled-well-made (turn .words) (ticketIn turn) (turn .ranks) (frameIn turn) (turn .aim) (turn .aimed .1) frame-bytes (slot-known-made turn known)))),
-        shown,
-        turn .goes .7,
-      )
+            (with-well-made (tableOf (turn .table)) (teamOf turn) (settledIn turn .0 .ticket) (turn .goes .made known)
+            (settled-well-made (turn .words) (ticketIn turn) (turn .ranks) (frameIn turn) (turn .aim) (turn .aim-known)
+            (bytes-before (turn .at + turn .size - turn .at) (drop (turn .at) (turn .input)) (bytes-after (turn .at) (turn .input) (turn .bytes))) (slot-known-made turn known)));
+        accepted = turn .goes .accepted;
+      }

@@ -5,23 +5,14 @@
 // the line ends with ` spoiled`.
 ghost use Prim.Native.Nat.{_+_, _≤_, _<_};
 ghost use lib.ListN.{length};
-use frames::numbers::Bits;
+use desk::Room;
+use desk::at_most;
+use desk::read64;
+use desk::say;
 use frames::numbers::read16;
-use frames::numbers::read32;
 use libc::STDIN_FILENO;
-use libc::STDOUT_FILENO;
 use sound::Scratch;
 use soundness::Checked;
-use words::Limits;
-
-struct Room {}
-
-impl Room {
-    const INPUT: usize = 1048576;
-
-    // For one word more than a book has.
-    const WORDS: usize = Limits::WORDS + 1;
-}
 
 // The buffer of which a part is lent: the bytes before that part, its bytes at most, and some behind them.
 struct Sector {}
@@ -46,39 +37,6 @@ impl Case {
     const HEAD: usize = 6;
 
     const GIVEN: usize = 10;
-}
-
-// Reads what there is behind the first `have` bytes; how many came.
-fn read_more(buffer: &mut [u8], have: usize) -> usize
-    requires { ⌜ have ≤ length (now buffer) ⌝ }
-    ensures { λ r. ⌜ have + r ≤ length (now (buffer .entry)) ⌝ }
-{
-    let rest = &mut buffer[have..];
-    let got = libc::read(STDIN_FILENO, rest);
-    io::count(got, rest)
-}
-
-// Reads until nothing comes or the buffer is full: one read of a pipe may give less than there is.
-fn read_all(buffer: &mut [u8]) -> usize
-    ensures { λ r. ⌜ r ≤ length (now (buffer .entry)) ⌝ }
-{
-    let mut have: usize = 0;
-    while have < buffer.len() {
-        let got = read_more(buffer, have);
-        if got == 0 {
-            return have;
-        }
-        have += got;
-    }
-    have
-}
-
-fn read64(part: &[u8], at: usize) -> u64
-    requires { ⌜ at + 7 < length (now part) ⌝ }
-{
-    let low = read32(part, at);
-    let high = read32(part, at + 4);
-    low as u64 + Bits::FOUR_BYTES * (high as u64)
 }
 
 fn clear(book: &mut [u64]) {
@@ -107,25 +65,21 @@ fn set_words(book: &mut [u64], given: &[u8]) {
     }
 }
 
-fn text(bytes: &[u8]) {
-    io::write_all(STDOUT_FILENO, bytes);
-}
-
 fn tell(answer: Checked) {
     match answer {
-        Checked::Yes => text(b"yes"),
-        Checked::No => text(b"no"),
-        Checked::WrongBookLength => text(b"refused 1"),
-        Checked::ScratchTooShort => text(b"refused 12"),
+        Checked::Yes => say::text(b"yes"),
+        Checked::No => say::text(b"no"),
+        Checked::WrongBookLength => say::text(b"refused 1"),
+        Checked::ScratchTooShort => say::text(b"refused 12"),
     }
 }
 
 fn tell_end(spoiled: bool) {
     if spoiled {
-        text(b" spoiled\n");
+        say::text(b" spoiled\n");
         return;
     }
-    text(b"\n");
+    say::text(b"\n");
 }
 
 fn fill(sector: &mut [u8], filling: u8) {
@@ -145,15 +99,6 @@ fn is_full(part: &[u8], filling: u8) -> bool {
         i += 1;
     }
     true
-}
-
-fn at_most(number: usize, most: usize) -> usize
-    ensures { λ r. ⌜ r ≤ most ⌝ }
-{
-    if most < number {
-        return most;
-    }
-    number
 }
 
 // Whether a byte changed before the part lent, or behind those of its first bytes that the check may write.
@@ -255,7 +200,7 @@ fn check_input(
     words: &mut [u64; Room::WORDS],
     sector: &mut [u8; Sector::BYTES],
 ) {
-    let have = read_all(buffer);
+    let have = io::read_full(STDIN_FILENO, buffer);
     check_cases(words, sector, &buffer[0..have]);
 }
 

@@ -6,8 +6,7 @@ use mathlib.Core.Option.{Option, none, some}
 use lib.ListN.{getD, drop}
 use Rattle.legs.specs.Positions.{Ranks, fixedRanks}
 use Rattle.legs.proofs.Examples.{turned}
-use Rattle.tickets.specs.declared.Tickets.{Tickets}
-use Rattle.tickets.specs.Tickets.{freshTickets, withTicket, standsBelow}
+use Rattle.tickets.specs.Tickets.{Tickets, freshTickets, withTicket, standsBelow}
 use Rattle.edits.specs.declared.Edit.{Edit}
 use Rattle.edits.specs.declared.Edit.the-variants.{Move}
 use Rattle.edits.specs.Opened.{openedTicket}

@@ -7,8 +7,7 @@ use mathlib.Core.Logic.{inl, inr}
 use lib.Seq.{getD-set-other}
 use Rattle.words.specs.Words.{Words}
 use Rattle.legs.specs.Positions.{Ranks}
-use Rattle.tickets.specs.declared.Tickets.{Tickets}
-use Rattle.tickets.specs.Tickets.{absentSlot, ticketOf}
+use Rattle.tickets.specs.Tickets.{Tickets, noTicket, ticketOf}
 use Rattle.tickets.specs.Steps.{stepOf, lookOf}
 use Rattle.edits.specs.Opened.{openedTicket}
 use Rattle.edits.specs.Views.{openedView}
@@ -97,10 +96,10 @@ demand1 words tickets ranks frame out table = answered-by words tickets ranks fr
 -- Of every other team than a request's the ticket stays.
 others-keep : (words : Words) (tickets : Tickets) (ranks : Ranks) (request : Request) (team : ℕ) → (IsOf team request → ⊥) → ticketOf (requestDone words tickets ranks request .tickets) team ≡ ticketOf tickets team
 unfolding requestDone
-others-keep words tickets ranks (Open other edit) team differs = getD-set-other (tickets .slots) other team (openedTicket ranks edit) absentSlot differs
-others-keep words tickets ranks (Step other) team differs = getD-set-other (tickets .slots) other team (stepOf words (ticketOf tickets other) other .0 .ticket) absentSlot differs
+others-keep words tickets ranks (Open other edit) team differs = getD-set-other (tickets .slots) other team (openedTicket ranks edit) noTicket differs
+others-keep words tickets ranks (Step other) team differs = getD-set-other (tickets .slots) other team (stepOf words (ticketOf tickets other) other .0 .ticket) noTicket differs
 others-keep words tickets ranks (Look word) team differs = refl
-others-keep words tickets ranks (View other n named) team differs = getD-set-other (tickets .slots) other team (openedView ranks named) absentSlot differs
+others-keep words tickets ranks (View other n named) team differs = getD-set-other (tickets .slots) other team (openedView ranks named) noTicket differs
 
 keep-by : (refusal : Option ℕ) (words : Words) (tickets : Tickets) (ranks : Ranks) (request : Request) (team : ℕ) → (IsOf team request → ⊥) → ticketOf (refusedOr refusal words tickets ranks request .tickets) team ≡ ticketOf tickets team
 keep-by none words tickets ranks request team differs = others-keep words tickets ranks request team differs

@@ -3,7 +3,7 @@ use mathlib.Core.Path.{_≡_, refl, sym, ap, subst, _∙_}
 use mathlib.Core.Option.{none}
 use Rattle.words.specs.Words.{Words}
 use Rattle.legs.specs.Positions.{Ranks}
-use Rattle.tickets.specs.declared.Tickets.{Tickets}
+use Rattle.tickets.specs.Tickets.{Tickets}
 use Rattle.tickets.specs.Steps.{stepOf}
 use Rattle.tickets.proofs.Swapping.{step-swaps-one-word, views-take-any-value, waiting-tells-holder}
 use Rattle.legs.proofs.Ranks.{fixed-ranks-are-permutation, positions-differ}

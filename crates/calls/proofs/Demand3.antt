@@ -13,8 +13,7 @@ use Rattle.words.specs.Words.{Words, wordsInBook, readOf, markOf}
 use Rattle.legs.proofs.Ranks.{fixed-ranks-are-permutation}
 use Rattle.tickets.specs.declared.Phase.{Phase}
 use Rattle.tickets.specs.declared.Phase.the-variants.{NoTicket, Claiming, Putting, GivingBack, Viewing, Viewed}
-use Rattle.tickets.specs.declared.Ticket.{Ticket}
-use Rattle.tickets.specs.Tickets.{ticketOf, freshTickets, hasTicket}
+use Rattle.tickets.specs.Tickets.{Ticket, ticketOf, freshTickets, hasTicket}
 use Rattle.tickets.specs.Invariant.{Holds, FitSlot}
 use Rattle.tickets.proofs.Keeping.{standing-fit}
 use Rattle.tickets.proofs.Opening.{holds-at-start}
@@ -35,7 +34,7 @@ use Rattle.calls.proofs.Tables.{tables-stay}
 use Rattle.calls.proofs.Hearing.{answers-heard}
 use Rattle.calls.proofs.Orders.{IsKept, RightFrom, right-at, play-last, play-finished, play-both, unfilled, filled-finished}
 use Rattle.calls.proofs.Ordered.{played, Ordered, finished-ordered}
-use Rattle.calls.proofs.Freshness.{fresh-words, fresh-legs, fresh-slots, fresh-table}
+use Rattle.calls.proofs.Freshness.{fresh-words, fresh-slots, fresh-table}
 use Rattle.calls.proofs.Tied.{HeardIn, KnownAs, Tied, known-stands, holds-heard, heard-holds}
 use Rattle.calls.proofs.Turns.{ShelfTied, Good}
 use Rattle.calls.proofs.Kept.{call-kept}

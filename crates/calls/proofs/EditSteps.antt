@@ -7,9 +7,8 @@ use Prim.Native.Nat.{ℕ, _+_, _<_}
 use native.Mathlib.Omega.{arith}
 use Rattle.tickets.specs.declared.Phase.{Phase}
 use Rattle.tickets.specs.declared.Phase.the-variants.{Claiming, Putting, GivingBack, Viewing, Viewed}
-use Rattle.tickets.specs.declared.Ticket.{Ticket}
+use Rattle.tickets.specs.Tickets.{Ticket, noTicket, ticketOf, targetAt, targetsIn, claims}
 use Rattle.tickets.specs.declared.StepAnswer.the-variants.{Claimed, Waiting, Found, Put, Returned, Granted, Stale}
-use Rattle.tickets.specs.Tickets.{noTicket, ticketOf, targetAt, targetsIn, claims}
 use Rattle.tickets.specs.Steps.{oneMoreTry, advanced}
 use Rattle.tickets.specs.Targets.{AllMatch, PutInto}
 use Rattle.tickets.specs.Invariant.{StepKept, claimed-one, claimed-last, waiting, found-other, stale-at-once, put-one, put-last, returned-one, returned-last, viewed-one, viewed-last, view-waiting, view-returned-one, view-returned-last}

@@ -11,18 +11,15 @@ use lib.ListN.{length, drop, replicate, length-map}
 use lib.Seq.{drop-at}
 use borrow.Author.Tests.{ltb-true, not-false, lt-ltb, leb-false}
 use Rattle.words.specs.Tests.{allHold, within}
-use Rattle.words.specs.Words.{Words, isHeld, nobody, holderOf, mostTargets, readOf, teamCount}
+use Rattle.words.specs.Words.{Words, isHeld, nobody, holderOf, mostNamed, readOf, teamCount}
 use Rattle.words.proofs.Tests.{AllTrue, join}
 use Rattle.tickets.specs.declared.Target.{Target}
 use Rattle.tickets.specs.declared.Phase.the-variants.{Claiming, Putting, GivingBack, Viewing, Viewed}
-use Rattle.tickets.specs.declared.Ticket.{Ticket}
+use Rattle.tickets.specs.Tickets.{Ticket, Tickets, targetAt, targetsIn, namedIn, ticketOf, hasTicket, targetWellMade, allWellMade, wellMade}
 use Rattle.legs.specs.Positions.{Ranks}
-use Rattle.tickets.specs.declared.Tickets.{Tickets}
-use Rattle.tickets.specs.declared.Stepped.{Stepped}
 use Rattle.tickets.specs.declared.StepAnswer.the-variants.{Waiting, Stale, Seen}
 use Rattle.tickets.specs.declared.LookAnswer.the-variants.{Value, Held}
-use Rattle.tickets.specs.Tickets.{targetAt, targetsIn, padded, namedIn, ticketOf, hasTicket, targetWellMade, allWellMade, wellMade}
-use Rattle.tickets.specs.Steps.{mostTries, oneMoreTry, valueNoted, valuesFrom, valuesOf, valuesNamed, valuesSeen, settled, stepOf}
+use Rattle.tickets.specs.Steps.{Stepped, mostTries, oneMoreTry, valueNoted, valuesFrom, valuesOf, valuesNamed, valuesSeen, settled, stepOf}
 use Rattle.tickets.proofs.TargetLists.{length-targets}
 use Rattle.tickets.proofs.Made.{well-made-parts, target-fits, made, counts-in}
 use Rattle.tickets.proofs.Outcomes.{Outcome, claims-one, claims-last, waits, differs-later, differs-first, puts-one, puts-last, returns-one, returns-last, notes-one, notes-last, view-waits, view-returns-one, view-returns-last, outcome}
@@ -39,7 +36,10 @@ use Rattle.calls.proofs.Refusing.{AllSorted, returned-small, refusal-so
 use Rattle.calls.proofs.Tables.{one-more-fits, count-most}
 
 -- At most six values in their room are those values, and zeros behind them.
-pub values-in-room : (n : ℕ) (values : List ℕ) → length values ≤ mostTargets → valuesOf (valuesFrom n values) ≡ padded values
+abbrev inRoom : List ℕ → List ℕ
+inRoom values = values ++ replicate (mostNamed - length values) 0
+
+values-in-room : (n : ℕ) (values : List ℕ) → length values ≤ mostNamed → valuesOf (valuesFrom n values) ≡ inRoom values
 values-in-room n [] most = refl
 values-in-room n (a ∷ []) most = refl
 values-in-room n (a ∷ b ∷ []) most = refl
@@ -107,13 +107,13 @@ module _ (ticket : Ticket) (well : wellMade ticket ≡ true) (tries : ticket .tr
   seen-fits =
       let parts = well-made-parts ticket well in
       let values = valuesNamed ticket in
-      let zeros : List ℕ = replicate (mostTargets - length values) 0 in
+      let zeros : List ℕ = replicate (mostNamed - length values) 0 in
       let many : length values ≡ ticket .n = length-map (namedIn ticket) (valueNoted (targetsIn ticket)) ∙ length-map (targetsIn ticket) (λ one. one .new) ∙ length-targets ticket in
       let room = values-in-room (ticket .n) values (omega (arith, many, made ticket well .most)) in
-      let fit = join (map fits64 (padded values)) (values-fit (valueNoted (targetsIn ticket)) (λ word. value-small (targetsIn ticket) word (parts .targets)) (namedIn ticket) (mostTargets - length values)) in
-      let none-behind = ap allZero (drop-at values zeros (ticket .n) many) ∙ join (map (eqb 0) zeros) (zeros-zero (mostTargets - length values)) in
+      let fit = join (map fits64 (inRoom values)) (values-fit (valueNoted (targetsIn ticket)) (λ word. value-small (targetsIn ticket) word (parts .targets)) (namedIn ticket) (mostNamed - length values)) in
+      let none-behind = ap allZero (drop-at values zeros (ticket .n) many) ∙ join (map (eqb 0) zeros) (zeros-zero (mostNamed - length values)) in
       let in-room = valuesOf (valuesSeen ticket) in
-      join (within 1 mostTargets (ticket .n) ∷ allHold (map fits64 in-room) ∷ allZero (drop (ticket .n) in-room) ∷ [])
+      join (within 1 mostNamed (ticket .n) ∷ allHold (map fits64 in-room) ∷ allZero (drop (ticket .n) in-room) ∷ [])
       (parts .many, (ap (λ (l : List ℕ). allHold (map fits64 l)) room ∙ fit, (ap (λ (l : List ℕ). allZero (drop (ticket .n) l)) room ∙ none-behind, tt)))
 
   settled-fits : (found : ℕ) → Outcome ticket found → Fits (settled ticket found)
@@ -161,8 +161,7 @@ module _ (words : Words) (tickets : Tickets) (ranks : Ranks) (fits : TableFits t
   request-fits (Open team edit) known good stands sized = lt-ltb (targetCount edit) 65536 (omega (arith, count-most edit))
   request-fits (Step team) known good stands sized =
       let standing = not-false _ stands in
-      let slot = fits .slots team (ltb-true team teamCount (not-false _ known)) in
-      step-fits (ticketOf tickets team) (standing-made (ticketOf tickets team) standing good) (slot .tries) words team standing
+      step-fits (ticketOf tickets team) (standing-made (ticketOf tickets team) standing good) (fits .tries team (ltb-true team teamCount (not-false _ known))) words team standing
   request-fits (Look word) known good stands sized = look-fits words word (isHeld (readOf words word)) refl
   request-fits (View team n named) known good stands sized = lt-ltb (length named) 65536 (omega (arith, sized .1))
 
@@ -170,7 +169,7 @@ module _ (words : Words) (tickets : Tickets) (ranks : Ranks) (fits : TableFits t
       → (refusal ≡ none → answerFits (requestDone words tickets ranks request .answer) ≡ true)
       → answerFits (refusedOr refusal words tickets ranks request .answer) ≡ true
   done-fits request none sorted passes = passes refl
-  done-fits request (some number) sorted passes = lt-ltb number 65536 (elim sorted [ inl alone ↦ returned-small number alone | inr (least, most) ↦ omega arith ])
+  done-fits request (some number) sorted passes = lt-ltb number 65536 (elim sorted [ inl alone ↦ omega (arith, returned-small number alone) | inr (least, most) ↦ omega arith ])
 
   pub answer-fits : (frame out : Bytes) → answerFits (doneOf words tickets ranks frame out .answer) ≡ true
   unfolding doneOf

@@ -3,16 +3,16 @@ use mathlib.Core.Path.{_≡_, refl, ap, _∙_}
 use mathlib.Core.Bool.{Bool, true, false, cond}
 use mathlib.Core.List.{List, []}
 use mathlib.Core.Option.{none}
-use Prim.Native.Nat.{ℕ, zero, suc, _+_, _-_, _/_, _%_, _<_, zero-le}
+use Prim.Native.Nat.{ℕ, zero, suc, _+_, _-_, _/_, _%_, _≤_, zero-le}
 use native.Mathlib.Omega.{arith}
 use lib.Dec.{eqb, ltb}
-use lib.ListN.{getD, replicate, length-replicate, getD-replicate}
+use lib.ListN.{getD, replicate, length-replicate}
 use Rattle.words.specs.Words.{firstLegWord, passageCount, teamCount}
-use Rattle.tickets.specs.declared.Ticket.{Ticket}
+use Rattle.tickets.specs.Tickets.{noTicket, ticketOf, freshTickets}
 use Rattle.tickets.specs.declared.Phase.the-variants.{NoTicket}
-use Rattle.tickets.specs.Tickets.{noTicket, absentSlot, ticketOf, freshTickets}
 use Rattle.plain.specs.Plain.{Plain, NumberedLeg, freshPlain, listOf, findBelow, find, passageWord, legWord, wordOf, legsBelow, legsInBook}
-use Rattle.calls.specs.Demand1.{SlotFits, TableFits}
+use Rattle.tickets.specs.Steps.{mostTries}
+use Rattle.calls.specs.Demand1.{TableFits}
 
 either-way : {A : Type 0} (test : Bool) (a : A) → cond test a a ≡ a
 either-way true a = refl
@@ -52,21 +52,18 @@ pub fresh-legs : legsInBook freshPlain ≡ 0
 fresh-legs = no-legs freshPlain (fresh-list passageCount) passageCount
 
 -- So many empty slots.
-empty-slot : (n team : ℕ) → getD (replicate n noTicket) team absentSlot .phase ≡ NoTicket
+empty-slot : (n team : ℕ) → getD (replicate n noTicket) team noTicket .phase ≡ NoTicket
 empty-slot zero team = refl
 empty-slot (suc n) zero = refl
 empty-slot (suc n) (suc team) = empty-slot n team
 
-slot-fits : (n team : ℕ) → team < n → SlotFits (getD (replicate n noTicket) team absentSlot)
-slot-fits n team below = rw (getD-replicate {A = Ticket} n team noTicket absentSlot below) record {
-  words = refl;
-  quoted = refl;
-  new = refl;
-  tries = zero-le;
-}
+tries-fit : (n team : ℕ) → getD (replicate n noTicket) team noTicket .tries ≤ mostTries
+tries-fit zero team = zero-le
+tries-fit (suc n) zero = zero-le
+tries-fit (suc n) (suc team) = tries-fit n team
 
 pub fresh-slots : (team : ℕ) → ticketOf freshTickets team .phase ≡ NoTicket
 fresh-slots = empty-slot teamCount
 
 pub fresh-table : TableFits freshTickets
-fresh-table = record { teams = length-replicate teamCount noTicket; slots = slot-fits teamCount }
+fresh-table = record { teams = length-replicate teamCount noTicket; tries = λ team inside. tries-fit teamCount team }

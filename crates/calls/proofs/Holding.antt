@@ -1,23 +1,21 @@
 -- A step that is answered Waiting names the team that holds the word, and it is another one.
 use mathlib.Core.Path.{_≡_, refl, sym, ap, subst, _∙_}
 use mathlib.Core.Bool.{true, false, false≢true}
-use mathlib.Core.List.{List}
 use mathlib.Core.Option.{Option, none, some}
 use Prim.Native.Nat.{ℕ, _<_}
 use lib.ListN.{length}
 use Rattle.words.specs.Words.{teamCount, markOf, holderOf}
 use Rattle.words.proofs.Marks.{mark-held-by}
-use Rattle.tickets.specs.declared.Ticket.{Ticket}
+use Rattle.tickets.specs.Tickets.{Ticket, ticketOf, targetAt, targetsIn, hasTicket}
 use Rattle.tickets.specs.declared.StepAnswer.{StepAnswer}
 use Rattle.tickets.specs.declared.StepAnswer.the-variants.{Claimed, Waiting, Found, Put, Returned, Granted, Stale, Seen}
 use Rattle.tickets.specs.declared.Values.{Values}
-use Rattle.tickets.specs.Tickets.{ticketOf, targetAt, targetsIn, hasTicket}
 use Rattle.tickets.specs.Steps.{stepOf}
 use Rattle.tickets.specs.Invariant.{Holder, FitTicket, Leaves, StepKept, claimed-one, claimed-last, waiting, found-other, stale-at-once, put-one, put-last, returned-one, returned-last, viewed-one, viewed-last, view-waiting, view-returned-one, view-returned-last}
 use Rattle.tickets.proofs.Keeping.{standing-fit}
 use Rattle.tickets.proofs.Putting.{allPut, all-put}
 use Rattle.tickets.proofs.Stepping.{step-keeps}
-use Rattle.frames.specs.Request.{Request, Step}
+use Rattle.frames.specs.Request.{Step}
 use Rattle.frames.specs.declared.Answer.{Answer}
 use Rattle.frames.specs.declared.Answer.the-variants as Answer
 use Rattle.frames.specs.Numbers.{Bytes, areBytes}

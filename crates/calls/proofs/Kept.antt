@@ -9,10 +9,9 @@ use lib.ListN.{length, replicate, length-append, length-map}
 use borrow.Author.Tests.{eq-eqb}
 use Rattle.words.specs.Words.{wordsInBook, teamCount, mostTargets}
 use Rattle.legs.specs.Positions.{Ranks}
-use Rattle.tickets.specs.declared.Ticket.{Ticket}
+use Rattle.tickets.specs.Tickets.{Ticket, ticketOf, withTicket, targetsIn, wordsIn, hasTicket, namesWellMade}
 use Rattle.tickets.specs.declared.LookAnswer.{LookAnswer}
 use Rattle.tickets.specs.declared.LookAnswer.the-variants.{Value, Held}
-use Rattle.tickets.specs.Tickets.{ticketOf, withTicket, targetsIn, wordsIn, hasTicket, namesWellMade}
 use Rattle.tickets.specs.Steps.{lookOf}
 use Rattle.tickets.specs.Targets.{Claimable}
 use Rattle.tickets.specs.Invariant.{Invariant, OpenedTicket, StepKept, LookRight}

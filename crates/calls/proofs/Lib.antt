@@ -11,6 +11,7 @@ pub mod Streaming
 pub mod Tables
 pub mod Fitting
 pub mod Hearing
+pub mod AnswerRatio
 pub mod Demand1
 pub mod Minutes
 pub mod Demand2

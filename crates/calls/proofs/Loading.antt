@@ -8,13 +8,12 @@ use native.Mathlib.Omega.{arith}
 use lib.Dec.{eqb}
 use lib.ListN.{length}
 use borrow.Author.Tests.{eq-eqb, eqb-true, not-false}
-use Rattle.words.specs.Tests.{allHold, occurs}
+use Rattle.words.specs.Tests.{occurs}
 use Rattle.words.specs.Words.{Words, wordsInBook, teamCount, passageCount}
 use Rattle.words.proofs.Tests.{split, join}
 use Rattle.legs.specs.Positions.{Ranks, allOccurBelow, isPermutation, Accepted}
 use Rattle.legs.proofs.Ranks.{each}
-use Rattle.tickets.specs.declared.Tickets.{Tickets}
-use Rattle.tickets.specs.Tickets.{ticketOf, hasTicket, standsBelow}
+use Rattle.tickets.specs.Tickets.{Tickets, ticketOf, hasTicket, standsBelow}
 use Rattle.calls.specs.declared.Outcome.{Outcome}
 use Rattle.calls.specs.declared.Outcome.the-variants as Outcome
 use Rattle.calls.specs.Call.{bookLengthWrong, ranksWrong}

@@ -2,28 +2,27 @@
 use Prim.Native.Nat.{ℕ}
 use mathlib.Core.Path.{_≡_, refl, sym, ap, _∙_}
 use mathlib.Core.List.{List, [], _∷_, map}
-use mathlib.Core.Bool.{Bool, true, false, not}
+use mathlib.Core.Bool.{false, not}
 use mathlib.Core.Option.{Option, none, some}
 use Rattle.words.specs.Words.{Words}
 use Rattle.words.specs.Tests.{someHolds}
 use Rattle.legs.specs.Positions.{Ranks}
-use Rattle.tickets.specs.declared.Tickets.{Tickets}
+use Rattle.tickets.specs.Tickets.{Tickets}
 use Rattle.edits.specs.declared.Edit.{Edit}
 use Rattle.edits.specs.declared.Edit.the-variants as Edit
 use Rattle.frames.specs.declared.Answer.{Answer}
 use Rattle.frames.specs.declared.Header.the-variants.{Kind}
 use Rattle.frames.specs.Request.{Open}
 use Rattle.frames.specs.Numbers.{Bytes}
-use Rattle.frames.specs.Requests.{kindField, partAfterKind, anglesOfKind, requestIn}
+use Rattle.frames.specs.Requests.{partAfterKind, anglesOfKind, requestIn}
 use Rattle.frames.specs.Fields.{headerOf, angleOutOfRange, requestOutOfRange, fieldRepeated}
 use Rattle.frames.specs.Writing.{requestFrame}
 use Rattle.frames.proofs.Headers.{kind-tests}
 use Rattle.frames.specs.Minutes.{roundedEdit, minutesKind, minutesFrame}
 use Rattle.frames.proofs.Asked.{requests-read-back, request-frames-whole, minutes-read-back, minutes-frames-whole, minutes-frames-are-bytes}
 use Rattle.frames.proofs.Fitting.{edits-read-fit}
-use Rattle.calls.specs.declared.Reply.{Reply}
 use Rattle.calls.specs.Run.{framed, Shared, fresh, onward, answerHeard, heardOf, leftBy, runFrom}
-use Rattle.calls.specs.Call.{bookLengthWrong, ranksWrong, outputShort, teamUnknown, ownTicketBadlyMade, opensOverTicket, stepWithoutTicket, check, firstOf, refusalChecks, refusalOf, Done, refusedOr, doneOf, writtenBy, sentOf, callOf}
+use Rattle.calls.specs.Call.{Reply, bookLengthWrong, ranksWrong, outputShort, teamUnknown, ownTicketBadlyMade, opensOverTicket, stepWithoutTicket, check, firstOf, refusalChecks, refusalOf, refusedOr, doneOf, writtenBy, sentOf, callOf}
 use Rattle.calls.specs.Order.{Notes, hearAnswer, hearRequest, hearCall, notesFrom, noNotes}
 use Rattle.calls.specs.Minutes.{BehaveAlike, MinutesBehave, MinutesFramesBehave, Twins, alikeFrames, sameCall, oneOf, otherOf, answerTo, AlikeInOrder}
 

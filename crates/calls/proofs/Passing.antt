@@ -7,8 +7,7 @@ use borrow.Author.Tests.{ltb-true, not-false}
 use Rattle.words.specs.Tests.{allHold}
 use Rattle.words.specs.Words.{Words, wordsInBook, teamCount}
 use Rattle.legs.specs.Positions.{Ranks}
-use Rattle.tickets.specs.declared.Tickets.{Tickets}
-use Rattle.tickets.specs.Tickets.{ticketOf, hasTicket}
+use Rattle.tickets.specs.Tickets.{Tickets, ticketOf, hasTicket}
 use Rattle.edits.specs.declared.Edit.{Edit}
 use Rattle.edits.specs.Ranges.{editInRange, editRepeats, editAllowed}
 use Rattle.edits.specs.Views.{FineView}

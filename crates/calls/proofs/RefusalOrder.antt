@@ -11,8 +11,7 @@ use Rattle.legs.specs.declared.Stations.{Stations}
 use Rattle.legs.specs.declared.Measure.{Measure}
 use Rattle.tickets.specs.declared.Phase.{Phase}
 use Rattle.tickets.specs.declared.Phase.the-variants.{Claiming, GivingBack}
-use Rattle.tickets.specs.declared.Ticket.{Ticket}
-use Rattle.tickets.specs.Tickets.{freshTickets, withTicket}
+use Rattle.tickets.specs.Tickets.{Ticket, freshTickets, withTicket}
 use Rattle.edits.specs.declared.Edit.{Edit}
 use Rattle.edits.specs.declared.Edit.the-variants.{Add}
 use Rattle.edits.specs.Opened.{openedTicket}

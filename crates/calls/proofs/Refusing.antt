@@ -1,6 +1,6 @@
 -- The first check that applies is given, and none otherwise: its number is 1, 13 or 2, or 3 to 11, and where none applies, each test fails; what that says of the frame and of the words that a view names.
-use Prim.Native.Nat.{ℕ, zero, suc, _+_, _-_, _/_, _≤_, _<_}
-use mathlib.Core.Path.{_≡_, refl, sym, ap, _∙_}
+use Prim.Native.Nat.{ℕ, _+_, _-_, _/_, _≤_}
+use mathlib.Core.Path.{_≡_, refl, sym, _∙_}
 use mathlib.Core.Bool.{Bool, true, false, cond, not, false≢true, true≢false}
 use mathlib.Core.List.{List, [], _∷_}
 use mathlib.Core.Option.{Option, none, some}
@@ -11,17 +11,15 @@ use borrow.Author.Tests.{leb-true, ltb-false, eqb-true, ne-eqb, not-false}
 use lib.Dec.{eqb, leb, ltb}
 use lib.ListN.{length}
 use Rattle.words.specs.Tests.{allHold, someHolds, within, Every}
-use Rattle.words.specs.Words.{Words, mostTargets}
+use Rattle.words.specs.Words.{Words, mostNamed}
 use Rattle.words.proofs.Tests.{split, join}
 use Rattle.legs.specs.Positions.{Ranks}
-use Rattle.tickets.specs.declared.Ticket.{Ticket}
-use Rattle.tickets.specs.declared.Tickets.{Tickets}
-use Rattle.tickets.specs.Tickets.{hasTicket, wellMade}
+use Rattle.tickets.specs.Tickets.{Ticket, Tickets, hasTicket, wellMade}
 use Rattle.edits.specs.Views.{allInBook, viewInRange, viewRepeats, FineView}
 use Rattle.frames.specs.Request.{Request, Open, Step, Look, View}
 use Rattle.frames.specs.Numbers.{Bytes, number16}
 use Rattle.frames.specs.Requests.{lengthField, kindField, headBytes, partAfterKind, stepKind, lookKind, viewKind, lengthOfKind, teamIn, editOfKind, viewWordsIn, requestOfKind, requestIn}
-use Rattle.frames.specs.Fields.{longestFrame, frameTorn, kindUnknown, lengthWrong, ViewFields, FieldsOf, Whole, angleOutOfRange, requestOutOfRange, fieldOutOfRange, fieldRepeated}
+use Rattle.frames.specs.Fields.{longestFrame, frameTorn, kindUnknown, lengthWrong, ViewFields, FieldsOf, Whole, angleOutOfRange, requestOutOfRange, fieldRepeated}
 use Rattle.frames.proofs.Bytes.{length-numbers16}
 use Rattle.frames.proofs.Headers.{whole}
 use Rattle.calls.specs.Call.{bookLengthWrong, ranksWrong, outputShort, teamUnknown, badlyMade, ownTicketBadlyMade, opensOverTicket, stepWithoutTicket, Check, check, firstOf, isReturned, refusalChecks, refusalOf}
@@ -39,10 +37,10 @@ pub not-returned : (refusal : ℕ) → 3 ≤ refusal → refusal ≢ 13 → isRe
 not-returned refusal large other = simp (ne-eqb refusal 1 (λ e. omega arith), ne-eqb refusal 13 other, ne-eqb refusal 2 (λ e. omega arith))
 
 -- One that is, is small.
-pub returned-small : (refusal : ℕ) → isReturned refusal ≡ true → refusal < 65536
-returned-small refusal alone = elim (decLt refusal 65536) [
-  | yes small ↦ small
-  | no large ↦ absurd (false≢true (sym (not-returned refusal (omega arith) (λ e. omega arith)) ∙ alone))
+pub returned-small : (refusal : ℕ) → isReturned refusal ≡ true → refusal ≤ 13
+returned-small refusal alone = elim (decLt 13 refusal) [
+  | yes large ↦ absurd (false≢true (sym (not-returned refusal (omega arith) (λ e. omega arith)) ∙ alone))
+  | no small ↦ omega arith
 ]
 
 -- A refusal is one that is returned alone, or one of 3 to 11.
@@ -138,14 +136,14 @@ tests-fail false false true fails = absurd (true≢false fails)
 tests-fail false false false fails = (refl, refl, refl)
 
 -- A frame that 3, 4 and 5 do not refuse is whole.
-frame-whole : (frame : Bytes) → frameTorn frame ≡ false → kindUnknown frame ≡ false → lengthWrong frame ≡ false → Whole frame (kindField frame)
+pub frame-whole : (frame : Bytes) → frameTorn frame ≡ false → kindUnknown frame ≡ false → lengthWrong frame ≡ false → Whole frame (kindField frame)
 frame-whole frame torn unknown wrong =
     let (short, long, other) = tests-fail (ltb (length frame) headBytes) (ltb longestFrame (length frame)) (not (eqb (lengthField frame + 2) (length frame))) torn in
     whole frame (lengthField frame) (kindField frame) (not-false _ unknown) (ltb-false _ _ short) (eqb-true _ _ (not-false _ other)) (not-false _ wrong)
 
 -- The words that a view's fields name are one to six.
 abbrev pub OneToSix : List ℕ → Type 0
-OneToSix words = (1 ≤ length words) × (length words ≤ mostTargets)
+OneToSix words = (1 ≤ length words) × (length words ≤ mostNamed)
 
 pub named-many : (part : Bytes) → ViewFields part → OneToSix (viewWordsIn part)
 named-many part fields =

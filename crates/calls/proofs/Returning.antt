@@ -6,9 +6,9 @@ use mathlib.Core.Logic.{_≢_, _⊎_, inl, inr}
 use mathlib.Core.Option.{Option, none, some}
 use Prim.Native.Nat.{ℕ, _<_}
 use native.Mathlib.Omega.{arith}
-use native.Mathlib.Decide.{ℕ-discrete, decLt}
+use native.Mathlib.Decide.{ℕ-discrete}
 use lib.Dec.{eqb}
-use lib.ListN.{length, getD, getD-replicate}
+use lib.ListN.{length, getD-replicate}
 use lib.Seq.{ext-getD, getD-set-same, getD-set-other}
 use borrow.Author.Tests.{eqb-true, ltb-true, not-false}
 use Rattle.words.specs.Tests.{Every}
@@ -16,9 +16,7 @@ use Rattle.words.proofs.Tests.{split}
 use Rattle.words.specs.Words.{Words, wordsInBook, shelfCount, wordsInStore, teamCount, readOf}
 use Rattle.tickets.specs.declared.Phase.{Phase}
 use Rattle.tickets.specs.declared.Phase.the-variants.{NoTicket, Claiming, Putting, GivingBack, Viewing, Viewed}
-use Rattle.tickets.specs.declared.Ticket.{Ticket}
-use Rattle.tickets.specs.declared.Tickets.{Tickets}
-use Rattle.tickets.specs.Tickets.{noTicket, freshTickets, absentSlot, ticketOf, withTicket, hasTicket, countsWellMade, wellMade}
+use Rattle.tickets.specs.Tickets.{Ticket, Tickets, noTicket, freshTickets, ticketOf, withTicket, hasTicket, countsWellMade, wellMade}
 use Rattle.tickets.specs.Steps.{stepOf}
 use Rattle.tickets.specs.Invariant.{FitSlot}
 use Rattle.tickets.proofs.WellMade.{fit-well-made, well-made-kept}
@@ -30,17 +28,16 @@ use Rattle.frames.specs.Requests.{requestIn}
 use Rattle.calls.specs.Call.{refusalOf, requestDone, refusedOr, doneOf, callOf, bookLengthWrong}
 use Rattle.calls.specs.Outcomes.{outcomeOf, numberOf, ticketStands}
 use Rattle.calls.specs.Loading.{loadOf}
-use Rattle.calls.specs.Shelves.{shelfAt, shelfOf, withShelf, Filled, storeLengthWrong, shelfUnknown, neverFilled, shelfRefusal, fillRefusal, backRefusal, filledBy, fillOf, backBy, backOf}
-use Rattle.calls.specs.Run.{Call, framed, loading, filling, comingBack, theStore, another, Lent, LentRight, Admitted, Shared, fresh, onward, underRanks, Heard, heardOf, leftBy, lentBy, storeAfter, runFrom, run}
+use Rattle.calls.specs.Shelves.{shelfOf, withShelf, Filled, storeLengthWrong, shelfUnknown, neverFilled, shelfRefusal, fillRefusal, backRefusal, filledBy, fillOf, backBy, backOf}
+use Rattle.calls.specs.Run.{Call, framed, loading, filling, comingBack, theStore, another, Lent, LentRight, Admitted, Shared, fresh, underRanks, heardOf, leftBy, lentBy, storeAfter, runFrom, run}
 use Rattle.calls.specs.Order.{Notes, noNotes, hearCall, notesFrom}
 use Rattle.calls.specs.Demand1.{TableFits}
-use Rattle.calls.specs.Returning.{KeepsApart, ShelvesKeepApart, Went, NotFilled, returnedTo, ComesNotBack, ReturnsTo, ComingBackReturns}
-use Rattle.calls.proofs.Tables.{tables-stay, standing-inside}
+use Rattle.calls.specs.Returning.{ShelvesKeepApart, Went, NotFilled, returnedTo, ComesNotBack, ComingBackReturns}
 use Rattle.calls.proofs.Freshness.{fresh-table}
 use Rattle.calls.proofs.Turns.{Good}
 use Rattle.calls.proofs.Shelving.{no-ticket, read-shelf, length-shelf, length-with, read-mine, read-other}
 use Rattle.calls.proofs.Passing.{Passes, passes}
-use Rattle.calls.proofs.Demand3.{fresh-good, calls-keep, tables-run, run-table, run-good}
+use Rattle.calls.proofs.Demand3.{fresh-good, calls-keep, tables-run}
 
 -- A well-made ticket stands.
 made-stands : (ticket : Ticket) → wellMade ticket ≡ true → hasTicket (ticket .phase) ≡ true
@@ -65,13 +62,13 @@ emptied-with : (tickets : Tickets) (team : ℕ) (ticket : Ticket) → length (ti
 emptied-with tickets team ticket teams empty mine other inside none-stands = elim (ℕ-discrete other team) [
   | yes same ↦
       let here : ticketOf (withTicket tickets team ticket) other ≡ ticket =
-      ap (ticketOf (withTicket tickets team ticket)) same ∙ getD-set-same (tickets .slots) team ticket absentSlot (omega (arith, inside, teams, same)) in
+      ap (ticketOf (withTicket tickets team ticket)) same ∙ getD-set-same (tickets .slots) team ticket noTicket (omega (arith, inside, teams, same)) in
       here ∙ elim mine [
         | inl stands ↦ absurd (true≢false (sym stands ∙ ap (λ slot. hasTicket (slot .phase)) (sym here) ∙ none-stands))
         | inr gone ↦ gone
       ]
   | no differs ↦
-      let there : ticketOf (withTicket tickets team ticket) other ≡ ticketOf tickets other = getD-set-other (tickets .slots) team other ticket absentSlot differs in
+      let there : ticketOf (withTicket tickets team ticket) other ≡ ticketOf tickets other = getD-set-other (tickets .slots) team other ticket noTicket differs in
       there ∙ empty other inside (ap (λ slot. hasTicket (slot .phase)) (sym there) ∙ none-stands)
 ]
 
@@ -219,7 +216,7 @@ between-run (call ∷ calls) admitted shared n at =
 same-tables : (one two : Tickets) → length (one .slots) ≡ teamCount → length (two .slots) ≡ teamCount → Emptied one → Emptied two
     → ((team : ℕ) → hasTicket (ticketOf one team .phase) ≡ false) → ((team : ℕ) → hasTicket (ticketOf two team .phase) ≡ false) → one ≡ two
 same-tables one two first second empty-one empty-two none-one none-two i = record {
-  slots = ext-getD absentSlot (one .slots) (two .slots) (first ∙ sym second)
+  slots = ext-getD noTicket (one .slots) (two .slots) (first ∙ sym second)
       (λ team inside. empty-one team (omega (arith, inside, first)) (none-one team) ∙ sym (empty-two team (omega (arith, inside, first)) (none-two team))) i;
 }
 
@@ -310,7 +307,7 @@ module _ (shared : Shared) (shelf : ℕ) where
       by false false false false t e = (t, refl)
 
 fresh-empty : Emptied freshTickets
-fresh-empty team inside none-stands = getD-replicate {A = Ticket} teamCount team noTicket absentSlot inside
+fresh-empty team inside none-stands = getD-replicate {A = Ticket} teamCount team noTicket noTicket inside
 
 pub coming-back-returns : ComingBackReturns
 coming-back-returns store before between shelf first second filled-there none-filled back-here =

@@ -1,19 +1,16 @@
 -- What a call returns and writes: refusals 1, 13 and 2, and else the answer of the frame's way.
 use Prim.Native.Nat.{ℕ, _≤_, _<_}
-use mathlib.Core.Path.{_≡_, refl, sym, ap, subst, _∙_}
-use mathlib.Core.Bool.{Bool, true, false, cond, not}
+use mathlib.Core.Path.{_≡_, refl, sym, ap, _∙_}
+use mathlib.Core.Bool.{Bool, true, false, cond}
 use mathlib.Core.List.{List, []}
 use mathlib.Core.Logic.{inl, inr}
-use mathlib.Core.Option.{some}
 use native.Mathlib.Omega.{arith}
-use borrow.Author.Tests.{eq-eqb, ne-eqb, lt-ltb, le-ltb}
+use borrow.Author.Tests.{eq-eqb, ne-eqb, lt-ltb}
 use lib.Dec.{eqb, ltb, lit≤}
 use lib.ListN.{length}
 use Rattle.words.specs.Words.{Words, wordsInBook, teamCount}
 use Rattle.legs.specs.Positions.{Ranks, isPermutation, Accepted}
-use Rattle.tickets.specs.declared.Ticket.{Ticket}
-use Rattle.tickets.specs.declared.Tickets.{Tickets}
-use Rattle.tickets.specs.Tickets.{ticketOf, withTicket, hasTicket, wellMade}
+use Rattle.tickets.specs.Tickets.{Ticket, Tickets, ticketOf, withTicket, hasTicket, wellMade}
 use Rattle.tickets.specs.Steps.{stepOf, lookOf}
 use Rattle.edits.specs.declared.Edit.{Edit}
 use Rattle.edits.specs.Ranges.{editInRange, editRepeats}
@@ -31,11 +28,9 @@ use Rattle.frames.specs.Fields.{headerOf, editRead, readEdit, readAs, viewRead}
 use Rattle.frames.proofs.Headers.{refused-tests}
 use Rattle.calls.specs.declared.Aim.{Aim}
 use Rattle.calls.specs.declared.Aim.the-variants as Aim
-use Rattle.calls.specs.declared.Settled.{Settled}
-use Rattle.calls.specs.declared.Reply.{Reply}
 use Rattle.calls.proofs.Refusing.{not-returned}
-use Rattle.calls.specs.Call.{refusalChecks, refusalOf, Done, done, refusedOr, doneOf, Sent, number, bytes, sentOf, writtenBy, callOf}
-use Rattle.calls.specs.Way.{aimBy, aimOf, slotOf, settledWith, lookSettled, openSettled, viewSettled, stepSettled, newSettled, teamSettled, settledBy, wayDone, wayOf}
+use Rattle.calls.specs.Call.{Reply, refusalChecks, refusalOf, Done, doneOf, number, bytes, sentOf, writtenBy, callOf}
+use Rattle.calls.specs.Way.{Settled, aimBy, aimOf, slotOf, settledWith, lookSettled, openSettled, viewSettled, stepSettled, newSettled, teamSettled, settledBy, wayDone, wayOf}
 use Rattle.calls.proofs.Way.{way-is-call}
 
 -- An answer that goes out as a frame: any but refusals 1, 13 and 2.

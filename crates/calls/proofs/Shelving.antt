@@ -1,39 +1,37 @@
 -- A shelf that is filled or come back to keeps the invariant of a run.
-use mathlib.Core.Path.{_≡_, refl, sym, ap, subst, subst₂, _∙_}
-use mathlib.Core.Bool.{Bool, true, false, cond, not, true≢false, false≢true}
-use mathlib.Core.List.{List, [], _∷_, _++_, map}
-use mathlib.Core.Logic.{_≢_, inl, inr}
+use mathlib.Core.Path.{_≡_, refl, sym, ap, subst, _∙_}
+use mathlib.Core.Bool.{Bool, true, false, cond, not, true≢false}
+use mathlib.Core.List.{[], _∷_, _++_}
+use mathlib.Core.Logic.{_≢_, inl}
 use mathlib.Core.Option.{Option, none, some}
-use Prim.Native.Nat.{ℕ, zero, suc, _+_, _*_, _-_, _^_, _≤_, _<_}
+use Prim.Native.Nat.{ℕ, zero, suc, _+_, _-_, _<_}
 use native.Mathlib.Omega.{arith}
 use native.Mathlib.Nat.{le-of-suc-le-suc}
 use native.Mathlib.Decide.{ℕ-discrete, decLt}
 use lib.Dec.{eqb, ltb}
-use lib.ListN.{length, getD, set, take, drop, length-append, length-take, length-drop, length-set, List·getD-eq-default}
-use lib.Seq.{length-take-le, getD-append-add, getD-take, getD-drop, getD-set-same, getD-set-other, take-append-le, drop-drop}
+use lib.ListN.{length, getD, set, take, drop, length-append, length-drop, length-set, List·getD-eq-default}
+use lib.Seq.{length-take-le, getD-append-add, getD-take, getD-drop, getD-set-same, getD-set-other}
 use borrow.Author.Tests.{eq-eqb, ne-eqb, eqb-true, ltb-true, not-false}
 use Rattle.words.specs.Words.{Words, wordsInBook, shelfCount, wordsInStore, teamCount, readOf}
 use Rattle.words.specs.Tests.{someHolds}
-use Rattle.words.proofs.Tests.{is-false}
 use Rattle.tickets.specs.declared.Phase.{Phase}
 use Rattle.tickets.specs.declared.Phase.the-variants.{NoTicket, Claiming, Putting, GivingBack, Viewing, Viewed}
-use Rattle.tickets.specs.declared.Tickets.{Tickets}
-use Rattle.tickets.specs.Tickets.{absentSlot, ticketOf, hasTicket, standsBelow}
-use Rattle.tickets.specs.Invariant.{Invariant, Holder}
+use Rattle.tickets.specs.Tickets.{Tickets, noTicket, ticketOf, hasTicket, standsBelow}
+use Rattle.tickets.specs.Invariant.{Invariant}
 use Rattle.tickets.proofs.Looking.{unheld-plain}
-use Rattle.plain.specs.Plain.{Plain, wordOf, Sound}
+use Rattle.plain.specs.Plain.{Plain, wordOf}
 use Rattle.plain.proofs.Values.{words-are-values}
 use Rattle.calls.specs.Call.{bookLengthWrong}
 use Rattle.calls.specs.Outcomes.{numberOf, ticketStands}
-use Rattle.calls.specs.Shelves.{shelfAt, shelfOf, withShelf, Filled, isFilled, storeLengthWrong, shelfUnknown, neverFilled, shelfRefusal, fillRefusal, backRefusal, filledBy, fillOf, backBy, backOf}
+use Rattle.calls.specs.Shelves.{shelfAt, shelfOf, withShelf, isFilled, storeLengthWrong, shelfUnknown, neverFilled, shelfRefusal, fillRefusal, backRefusal, filledBy, fillOf, backBy, backOf}
 use Rattle.calls.specs.Run.{Lent, theStore, another, LentRight, filling, comingBack, Shared, onward, lentBy, storeAfter, heardOf, leftBy}
-use Rattle.calls.specs.Order.{Event, filled, cameBack, wasFilled, Noted, Notes, noteEvent, noteOutOfTurn, notedBelow, hearAlone, hearFilled, hearBack, hearCall}
+use Rattle.calls.specs.Order.{filled, cameBack, wasFilled, Noted, Notes, noteEvent, noteOutOfTurn, notedBelow, hearAlone, hearFilled, hearBack, hearCall}
 use Rattle.calls.specs.Linearizable.{freshState, withKept, play}
 use Rattle.calls.specs.Demand1.{TableFits}
 use Rattle.calls.proofs.Orders.{play-last, shelves-last, filled-last, filled-more}
 use Rattle.calls.proofs.Ordered.{played, place-stays, play-filling, filling-ordered, play-back, back-ordered}
 use Rattle.calls.proofs.Tied.{Tied, known-stands}
-use Rattle.calls.proofs.Turns.{placeIn, ShelfKept, ShelfTied, Shelved, Good}
+use Rattle.calls.proofs.Turns.{placeIn, ShelfKept, ShelfTied, Good}
 
 -- Where no ticket stands, no slot has one.
 pub none-below : (n : ℕ) (tickets : Tickets) → standsBelow n tickets ≡ false → (team : ℕ) → team < n → hasTicket (ticketOf tickets team .phase) ≡ false
@@ -62,7 +60,7 @@ module _ (tickets : Tickets) (teams : length (tickets .slots) ≡ teamCount) (no
   pub no-ticket : (team : ℕ) → hasTicket (ticketOf tickets team .phase) ≡ false
   no-ticket team = elim (decLt team teamCount) [
     | yes inside ↦ none-below teamCount tickets none-stands team inside
-    | no outside ↦ ap (λ slot. hasTicket (slot .phase)) (List·getD-eq-default (tickets .slots) absentSlot {n = team} (omega arith))
+    | no outside ↦ ap (λ slot. hasTicket (slot .phase)) (List·getD-eq-default (tickets .slots) noTicket {n = team} (omega arith))
   ]
 
 -- So none is noted.

@@ -7,25 +7,26 @@ use mathlib.Core.Bool.{Bool, true, false, cond}
 use mathlib.Core.List.{List, [], _∷_, _++_, append-assoc}
 use borrow.Author.Tests.{lt-ltb, le-ltb}
 use lib.Dec.{ltb}
-use lib.ListN.{length, take, drop, List·getD-append, length-append}
+use lib.ListN.{length, take, drop, replicate, List·getD-append, length-append}
 use lib.Seq.{take-at, drop-at}
 use Rattle.words.specs.Tests.{Every}
 use Rattle.words.specs.Words.{Words, wordsInBook}
 use Rattle.legs.specs.Positions.{Ranks, Accepted}
-use Rattle.tickets.specs.declared.Tickets.{Tickets}
+use Rattle.tickets.specs.Tickets.{Tickets}
 use Rattle.frames.specs.Numbers.{Bytes}
 use Rattle.frames.specs.Requests.{lengthField}
 use Rattle.frames.specs.Answers.{longestAnswer}
-use Rattle.frames.proofs.Framed.{answer-frames-sound}
 use Rattle.calls.specs.declared.Stop.{Stop}
 use Rattle.calls.specs.declared.Stop.the-variants.{MoreInput, OutputFull, BadLength, NoBook, NoRanks}
-use Rattle.calls.specs.declared.Streamed.{Streamed}
+use Rattle.calls.specs.Call.{Reply}
 use Rattle.calls.specs.Way.{wayOf}
 use Rattle.calls.specs.Run.{Shared, heardOf, leftBy, runFrom, sharing}
 use Rattle.frames.specs.Fields.{longestFrame}
-use Rattle.calls.specs.Survey.{longestField, joined, allWritten, callOn, callsOn, writtenBytes}
-use Rattle.calls.specs.Stream.{WholeFrame, StartsWhole, StopRight, runOn, StreamRight, Roomy, RoomSuffices, bytesOf, streamOf, PiecesSuffice}
-use Rattle.calls.proofs.StreamRun.{answerOf, leftOf, way-length, run-left, run-wrote, stream-is-run}
+use Rattle.calls.specs.Survey.{longestField, joined, allWritten, callOn, writtenBytes}
+use Rattle.calls.specs.Stream.{Streamed, WholeFrame, StartsWhole, StopRight, runOn, StreamRight, answerRatio, Roomy, RoomSuffices, bytesOf, streamOf, PiecesSuffice}
+use Rattle.calls.proofs.AnswerRatio.{answers-within-ratio}
+use Rattle.calls.proofs.Sending.{call-way}
+use Rattle.calls.proofs.StreamRun.{zeros-long, answerOf, leftOf, way-length, run-left, run-wrote, stream-is-run}
 
 -- Frames one after another: their bytes, that all are whole, and their run.
 pub joined-append : (frames later : List Bytes) → joined (frames ++ later) ≡ joined frames ++ joined later
@@ -51,7 +52,7 @@ run-written shared (frame ∷ frames) later =
     ap (λ (bytes : Bytes). own ++ bytes) (run-written left frames later)
     ∙ sym (append-assoc own (allWritten (runOn left frames .heard)) (allWritten (runOn (runOn left frames .end) later .heard)))
 
--- A run keeps the book's length, and writes at most 52 bytes for each two that it read.
+-- A run keeps the book's length, and writes at most nine bytes for each that it read.
 run-length : (words : Words) (tickets : Tickets) (ranks : Ranks) (frames : List Bytes) → length words ≡ wordsInBook → Accepted ranks → length (runOn (sharing words tickets ranks) frames .end .book) ≡ wordsInBook
 unfolding runFrom
 run-length words tickets ranks [] whole accepted = whole
@@ -59,15 +60,22 @@ run-length words tickets ranks (frame ∷ frames) whole accepted =
     ap (λ (shared : Shared). length (shared .book)) (run-left words tickets ranks frame whole accepted frames)
     ∙ run-length (wayOf words tickets ranks frame .words) (wayOf words tickets ranks frame .tickets) ranks frames (way-length words tickets ranks frame whole accepted) accepted
 
+answer-short : (words : Words) (tickets : Tickets) (ranks : Ranks) (frame : Bytes) (whole : length words ≡ wordsInBook) (accepted : Accepted ranks) → 2 ≤ length frame
+    → length (answerOf words tickets ranks frame whole accepted) ≤ answerRatio * length frame
+answer-short words tickets ranks frame whole accepted least =
+    let out : Bytes = replicate longestAnswer 0 in
+    let same = ap (λ (result : Reply × Words × Bytes). result .0 .written) (call-way words tickets ranks frame out whole accepted zeros-long) in
+    omega (arith, same, answers-within-ratio words tickets ranks frame out least)
+
 run-short : (words : Words) (tickets : Tickets) (ranks : Ranks) (frames : List Bytes) → length words ≡ wordsInBook → Accepted ranks → Every WholeFrame frames
-    → 2 * length (allWritten (runOn (sharing words tickets ranks) frames .heard)) ≤ longestAnswer * length (joined frames)
+    → length (allWritten (runOn (sharing words tickets ranks) frames .heard)) ≤ answerRatio * length (joined frames)
 unfolding runFrom
 run-short words tickets ranks [] whole accepted all = omega arith
 run-short words tickets ranks (frame ∷ frames) whole accepted all =
     let later = allWritten (runOn (leftOf words tickets ranks frame whole accepted) frames .heard) in
     let short = run-short (wayOf words tickets ranks frame .words) (wayOf words tickets ranks frame .tickets) ranks frames (way-length words tickets ranks frame whole accepted) accepted (all .1) in
     let wrote = ap length (run-wrote words tickets ranks frame whole accepted frames) ∙ length-append (answerOf words tickets ranks frame whole accepted) later in
-    omega (arith, short, wrote, length-append frame (joined frames), all .0 .0, answer-frames-sound (wayOf words tickets ranks frame .answer) .most)
+    omega (arith, short, wrote, length-append frame (joined frames), answer-short words tickets ranks frame whole accepted (omega (arith, all .0 .0)))
 
 -- A whole frame is known by its first bytes.
 same-field : (frame later : Bytes) → WholeFrame frame → lengthField (frame ++ later) ≡ lengthField frame
@@ -102,10 +110,10 @@ one-split (frame ∷ frames) (other ∷ others) rest over all all-others none-st
     ((λ i. frame-same i ∷ frames-same i), rest-same)
 
 -- Where there is room for an answer, a stream stops only where no whole frame is left, and what is left says how.
-none-left : (stop : Stop) (rest : Bytes) (room : ℕ) → StopRight stop rest room → (2 ≤ length rest → longestAnswer ≤ room) → StartsWhole rest → ⊥
+none-left : (stop : Stop) (rest : Bytes) (room : ℕ) → StopRight stop rest room → longestAnswer ≤ room → StartsWhole rest → ⊥
 none-left MoreInput rest room (inl few) roomy starts = omega (arith, starts .0)
 none-left MoreInput rest room (inr begun) roomy starts = omega (arith, starts .2, begun .1)
-none-left OutputFull rest room right roomy starts = omega (arith, roomy (starts .0), right .1)
+none-left OutputFull rest room right roomy starts = omega (arith, right .1)
 none-left BadLength rest room right roomy starts = omega (arith, starts .1, right .1)
 none-left NoBook rest room right roomy starts = right
 none-left NoRanks rest room right roomy starts = right
@@ -142,12 +150,12 @@ module _ (words : Words) (tickets : Tickets) (ranks : Ranks) (input out : Bytes)
   abbrev right : StreamRight (sharing words tickets ranks) input out result
   right = stream-is-run words tickets ranks input out whole accepted
 
-  -- Where two bytes are left there is room for one more answer,
-  pub room-left : Roomy input out → 2 ≤ length (drop (result .0 .consumed) input) → longestAnswer ≤ length out - result .0 .written
-  room-left roomy two =
+  -- There is room for one more answer,
+  pub room-left : Roomy input out → longestAnswer ≤ length out - result .0 .written
+  room-left roomy =
       let over = drop (result .0 .consumed) input in
       let long = ap length (right .parts) in
-      omega (arith, roomy, two, long, length-append (joined (right .frames)) over, right .written, run-short words tickets ranks (right .frames) whole accepted (right .all-whole))
+      omega (arith, roomy, long, length-append (joined (right .frames)) over, right .written, run-short words tickets ranks (right .frames) whole accepted (right .all-whole))
 
   -- so that no whole frame is left.
   pub rest-none : Roomy input out → StartsWhole (drop (result .0 .consumed) input) → ⊥

@@ -1,6 +1,5 @@
 -- A stream is the list of single calls on the whole frames at the front of its input.
-use Prim.Native.Nat.{ℕ, zero, suc, _+_, _*_, _-_, _<_, _≤_}
-use native.Mathlib.Nat.{not-suc-le-zero}
+use Prim.Native.Nat.{ℕ, zero, suc, _+_, _*_, _-_, _≤_}
 use native.Mathlib.Omega.{arith}
 use native.Mathlib.Decide.{decLt}
 use mathlib.Core.Path.{_≡_, refl, sym, ap, subst, _∙_}
@@ -8,32 +7,28 @@ use mathlib.Core.Bool.{Bool, true, false, not, cond, true≢false}
 use mathlib.Core.Logic.{inl, inr}
 use mathlib.Core.Option.{Option, none, some}
 use mathlib.Core.List.{List, [], _∷_, _++_, append-assoc, append-nil}
-use lib.ListN.{length, take, drop, getD, replicate, length-append, length-take, length-drop, length-replicate, take-append-drop, drop-of-length-le}
+use lib.ListN.{length, take, drop, getD, replicate, length-append, length-drop, length-replicate, take-append-drop}
 use lib.Seq.{take-append-seam, drop-append-seam, getD-append-add, take-length, drop-length, length-take-le, drop-drop, drop-at, getD-take}
-use lib.Dec.{eqb, lit≤}
+use lib.Dec.{eqb}
 use borrow.Author.Tests.{eqb-true}
 use Rattle.words.specs.Tests.{Every}
 use Rattle.words.specs.Words.{Words, wordsInBook}
 use Rattle.legs.specs.Positions.{Ranks, isPermutation, Accepted}
-use Rattle.tickets.specs.declared.Tickets.{Tickets}
-use Rattle.tickets.specs.Tickets.{ticketOf}
+use Rattle.tickets.specs.Tickets.{Tickets, ticketOf}
 use Rattle.tickets.proofs.Stepping.{length-kept}
 use Rattle.frames.specs.Request.{Request, Open, Step, Look, View}
 use Rattle.frames.specs.Numbers.{Bytes, number16}
 use Rattle.frames.specs.Requests.{lengthField, requestIn}
-use Rattle.frames.specs.Answers.{answerFrame, longestAnswer}
+use Rattle.frames.specs.Answers.{answerFrame, longestAnswer, roomIn, withRoom}
 use Rattle.frames.proofs.Framed.{answer-frames-sound}
-use Rattle.calls.specs.declared.Reply.{Reply}
 use Rattle.calls.specs.declared.Stop.{Stop}
 use Rattle.calls.specs.declared.Stop.the-variants.{MoreInput, OutputFull, BadLength, NoBook, NoRanks}
-use Rattle.calls.specs.declared.Next.{Next}
 use Rattle.calls.specs.declared.Next.the-variants.{Frame, End}
-use Rattle.calls.specs.declared.Streamed.{Streamed}
-use Rattle.calls.specs.Call.{check, firstOf, refusalOf, requestDone, refusedOr, doneOf, callOf}
+use Rattle.calls.specs.Call.{Reply, check, firstOf, refusalOf, requestDone, refusedOr, doneOf, callOf}
 use Rattle.calls.specs.Way.{wayOf}
 use Rattle.calls.specs.Run.{Shared, leftBy, heardOf, runFrom, sharing}
-use Rattle.calls.specs.Survey.{longestField, joined, allWritten, callOn, callsOn, writtenBytes}
-use Rattle.calls.specs.Stream.{nextAt, roomIn, withRoom, streamed, streamFrom, WholeFrame, StopRight, stopNumber, streamOf, runOn, StreamRight, StreamIsRun, StreamRefuses}
+use Rattle.calls.specs.Survey.{longestField, joined, allWritten, callOn, writtenBytes}
+use Rattle.calls.specs.Stream.{Streamed, nextAt, streamed, streamFrom, WholeFrame, StopRight, stopNumber, streamOf, runOn, StreamRight, StreamIsRun, StreamRefuses}
 use Rattle.calls.proofs.Way.{way-is-call}
 use Rattle.calls.proofs.Sending.{wayOut, call-way}
 use Rattle.calls.proofs.Streaming.{next-short, next-bad, next-torn, next-whole, stops, full, goes, after, stream-whole}
@@ -51,7 +46,7 @@ refused-length none words tickets ranks request = request-length words tickets r
 refused-length (some number) words tickets ranks request = refl
 
 -- The output of a single call has room.
-zeros-long : longestAnswer ≤ length (replicate {A = ℕ} longestAnswer 0)
+pub zeros-long : longestAnswer ≤ length (replicate {A = ℕ} longestAnswer 0)
 zeros-long = omega (arith, length-replicate {A = ℕ} longestAnswer 0)
 
 -- A single call on a frame goes its way: the answer's bytes, the book and the tickets are those of any output that has room.

@@ -2,31 +2,24 @@
 use Prim.Native.Nat.{ℕ, zero, suc, _+_, _-_, _<_, _≤_}
 use native.Mathlib.Nat.{not-suc-le-zero}
 use native.Mathlib.Omega.{arith}
-use native.Mathlib.Numerals.{sub-one}
 use mathlib.Core.Path.{_≡_, refl, sym, ap, _∙_}
 use mathlib.Core.Bool.{false}
 use borrow.Author.Tests.{lt-ltb, le-ltb, eq-eqb, ne-eqb}
-use lib.Dec.{ltb}
 use lib.ListN.{length, take, drop, length-take, length-drop}
 use Rattle.words.specs.Words.{Words, wordsInBook}
 use Rattle.legs.specs.Positions.{Ranks, isPermutation, Accepted}
-use Rattle.tickets.specs.declared.Tickets.{Tickets}
-use Rattle.tickets.specs.Tickets.{ticketOf, withTicket}
+use Rattle.tickets.specs.Tickets.{Tickets, ticketOf, withTicket}
 use Rattle.frames.specs.declared.Answer.{Answer}
 use Rattle.frames.specs.Numbers.{Bytes, number16}
-use Rattle.frames.specs.Answers.{answerFrame, longestAnswer, written}
+use Rattle.frames.specs.Answers.{answerFrame, longestAnswer, written, roomIn, withRoom}
 use Rattle.calls.specs.declared.Aim.{Aim}
-use Rattle.calls.specs.declared.Reply.{Reply}
-use Rattle.calls.specs.declared.Settled.{Settled}
 use Rattle.calls.specs.declared.Stop.{Stop}
 use Rattle.calls.specs.declared.Stop.the-variants.{MoreInput, OutputFull, BadLength, NoBook, NoRanks}
-use Rattle.calls.specs.declared.Next.{Next}
 use Rattle.calls.specs.declared.Next.the-variants.{Frame, End}
-use Rattle.calls.specs.declared.Streamed.{Streamed}
-use Rattle.calls.specs.Call.{callOf}
-use Rattle.calls.specs.Way.{aimOf, slotOf, settledBy}
+use Rattle.calls.specs.Call.{Reply, callOf}
+use Rattle.calls.specs.Way.{Settled, aimOf, slotOf, settledBy}
 use Rattle.calls.specs.Survey.{longestField}
-use Rattle.calls.specs.Stream.{nextAt, roomIn, withRoom, streamed, stoppedOr, streamFrom, streamOf}
+use Rattle.calls.specs.Stream.{Streamed, nextAt, streamed, streamFrom, streamOf}
 use Rattle.calls.proofs.Sending.{call-by}
 
 -- The next frame, test by test.

@@ -7,8 +7,7 @@ use lib.ListN.{length, length-replicate, getD-replicate}
 use Rattle.words.specs.Tests.{Every}
 use Rattle.words.specs.Words.{wordsInBook, teamCount}
 use Rattle.legs.specs.Positions.{fixedRanks}
-use Rattle.tickets.specs.declared.Ticket.{Ticket}
-use Rattle.tickets.specs.Tickets.{noTicket, absentSlot, freshTickets, hasTicket}
+use Rattle.tickets.specs.Tickets.{Ticket, noTicket, freshTickets, hasTicket}
 use Rattle.frames.specs.Numbers.{Bytes, areBytes}
 use Rattle.frames.specs.Requests.{lengthField}
 use Rattle.frames.proofs.Bytes.{bytes-after}
@@ -40,7 +39,7 @@ survey-linearizable input bytes = demand3 [] (callsOn (framesIn input)) (frames-
 -- No ticket stands at the start, so that a load of accepted ranks goes.
 pub load-begins : LoadBegins
 load-begins store ranks accepted =
-    ap (underRanks (fresh store)) (load-goes (fresh store .book) freshTickets fixedRanks ranks (length-replicate {A = ℕ} wordsInBook 0) accepted (λ team inside. ap (λ (t : Ticket). hasTicket (t .phase)) (getD-replicate {A = Ticket} teamCount team noTicket absentSlot inside)))
+    ap (underRanks (fresh store)) (load-goes (fresh store .book) freshTickets fixedRanks ranks (length-replicate {A = ℕ} wordsInBook 0) accepted (λ team inside. ap (λ (t : Ticket). hasTicket (t .phase)) (getD-replicate {A = Ticket} teamCount team noTicket noTicket inside)))
 
 pub survey-linearizable-under : SurveyLinearizableUnder
 survey-linearizable-under ranks accepted input bytes = demand3 [] (loading ranks ∷ callsOn (framesIn input)) (tt, frames-of-bytes (length input) input bytes)

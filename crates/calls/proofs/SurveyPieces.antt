@@ -16,13 +16,13 @@ use Rattle.legs.specs.Positions.{Ranks, Accepted}
 use Rattle.frames.specs.declared.Answer.the-variants.{Refused}
 use Rattle.frames.specs.Numbers.{Bytes}
 use Rattle.frames.specs.Requests.{lengthField}
-use Rattle.frames.specs.Answers.{answerFrame, longestAnswer}
+use Rattle.frames.specs.Answers.{answerFrame}
 use Rattle.frames.specs.Fields.{longestFrame}
 use Rattle.calls.specs.declared.Stop.{Stop}
 use Rattle.calls.specs.declared.Stop.the-variants.{MoreInput, OutputFull, BadLength, NoBook, NoRanks}
 use Rattle.calls.specs.Run.{Shared, fresh, underRanks, runFrom, sharing}
 use Rattle.calls.specs.Survey.{longestField, torn, firstFrame, afterFirstFrame, surveyUnder, framesFrom, framesIn, joined, allWritten, restOf, atEnd}
-use Rattle.calls.specs.Stream.{WholeFrame, StartsWhole, StopRight, runOn, Roomy}
+use Rattle.calls.specs.Stream.{WholeFrame, StartsWhole, StopRight, runOn, roomFor, Roomy}
 use Rattle.calls.specs.Pieces.{goesOn, Between, beginning, inputOf, turnOf, afterTurn, piecesFrom, RoomEachTurn, PiecesAreSurvey, PiecesHaveRoom}
 use Rattle.calls.proofs.Refusing.{tests-fail}
 use Rattle.calls.proofs.StreamRun.{stream-is-run}
@@ -182,7 +182,7 @@ kept-short stop left (inl bad) on = absurd (false≢true (sym (ap goesOn bad) �
 kept-short stop left (inr more) on = more .1
 
 room-each : (pieces : List Bytes) (before : Between) (room : ℕ) → length (before .book) ≡ wordsInBook → Accepted (before .ranks) → length (before .kept) < longestFrame → length (before .out) ≡ room
-    → Every (λ piece. longestAnswer * (longestFrame + length piece) ≤ 2 * room) pieces → RoomEachTurn before pieces
+    → Every (λ piece. roomFor (longestFrame + length piece) ≤ room) pieces → RoomEachTurn before pieces
 unfolding RoomEachTurn
 room-each [] before room whole accepted short long enough = tt
 room-each (piece ∷ later) before room whole accepted short long enough =

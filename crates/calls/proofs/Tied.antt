@@ -16,8 +16,7 @@ use Rattle.words.proofs.Tests.{split, join, is-false}
 use Rattle.legs.specs.Positions.{Ranks}
 use Rattle.tickets.specs.declared.Phase.{Phase}
 use Rattle.tickets.specs.declared.Phase.the-variants.{NoTicket, Claiming, Putting, GivingBack, Viewing, Viewed}
-use Rattle.tickets.specs.declared.Ticket.{Ticket}
-use Rattle.tickets.specs.Tickets.{target, targetAt, targetsIn, wordsIn, namedIn, hasTicket, claims}
+use Rattle.tickets.specs.Tickets.{Ticket, target, targetAt, targetsIn, wordsIn, namedIn, hasTicket, claims}
 use Rattle.tickets.specs.Steps.{mostTries}
 use Rattle.tickets.specs.Targets.{targetIn, AllMatch}
 use Rattle.tickets.specs.Invariant.{plainValue, Holds, FitTicket}

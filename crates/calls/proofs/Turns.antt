@@ -13,11 +13,9 @@ use Rattle.words.specs.Tests.{Every}
 use Rattle.words.specs.Words.{Words, wordsInBook, shelfCount, wordsInStore, teamCount, readOf}
 use Rattle.legs.specs.Positions.{Ranks, Accepted}
 use Rattle.tickets.specs.declared.Phase.{Phase}
-use Rattle.tickets.specs.declared.Ticket.{Ticket}
-use Rattle.tickets.specs.declared.Stepped.{Stepped}
+use Rattle.tickets.specs.Tickets.{Ticket, noTicket, ticketOf, withTicket, wordsIn, claims}
 use Rattle.tickets.specs.declared.StepAnswer.{StepAnswer}
-use Rattle.tickets.specs.Tickets.{noTicket, ticketOf, withTicket, wordsIn, claims}
-use Rattle.tickets.specs.Steps.{mostTries, oneMoreTry, advanced, stepOf}
+use Rattle.tickets.specs.Steps.{Stepped, mostTries, oneMoreTry, advanced, stepOf}
 use Rattle.tickets.specs.Invariant.{withSlot, FitTicket, Invariant, Leaves}
 use Rattle.tickets.proofs.TargetLists.{targets-advanced}
 use Rattle.tickets.proofs.Slots.{table-slots}

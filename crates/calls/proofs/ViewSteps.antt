@@ -8,9 +8,8 @@ use native.Mathlib.Omega.{arith}
 use lib.ListN.{length, set, take, getD, length-map}
 use Rattle.tickets.specs.declared.Phase.{Phase}
 use Rattle.tickets.specs.declared.Phase.the-variants.{Claiming, Putting, GivingBack, Viewing, Viewed}
-use Rattle.tickets.specs.declared.Ticket.{Ticket}
+use Rattle.tickets.specs.Tickets.{Ticket, noTicket, ticketOf, targetAt, targetsIn, wordsIn, namedIn, isView, claims}
 use Rattle.tickets.specs.declared.StepAnswer.the-variants.{Claimed, Waiting, Returned, Seen}
-use Rattle.tickets.specs.Tickets.{noTicket, ticketOf, targetAt, targetsIn, wordsIn, namedIn, isView, claims}
 use Rattle.tickets.specs.Steps.{advanced, noting, valuesNamed, valuesOf, valuesSeen}
 use Rattle.tickets.specs.Targets.{AllMatch}
 use Rattle.tickets.specs.Invariant.{FitTicket, StepKept, claimed-one, claimed-last, waiting, found-other, stale-at-once, put-one, put-last, returned-one, returned-last, viewed-one, viewed-last, view-waiting, view-returned-one, view-returned-last}

@@ -3,8 +3,8 @@ use Prim.Native.Nat.{ℕ, _≤_}
 use mathlib.Core.Path.{_≡_, refl, sym, ap, _∙_}
 use mathlib.Core.List.{List, [], _∷_}
 use mathlib.Core.Bool.{Bool, true, false, cond, not}
-use mathlib.Core.Logic.{_⊎_, inl, inr}
-use mathlib.Core.Option.{Option, none, some}
+use mathlib.Core.Logic.{inl, inr}
+use mathlib.Core.Option.{some}
 use native.Mathlib.Decide.{ℕ-discrete}
 use borrow.Author.Tests.{eq-eqb, ne-eqb, le-ltb, not-false}
 use lib.Dec.{eqb, ltb}
@@ -13,9 +13,7 @@ use lib.Seq.{set-getD}
 use Rattle.words.specs.Tests.{allHold, someHolds}
 use Rattle.words.specs.Words.{Words, wordsInBook, teamCount}
 use Rattle.legs.specs.Positions.{Ranks, Accepted}
-use Rattle.tickets.specs.declared.Ticket.{Ticket}
-use Rattle.tickets.specs.declared.Tickets.{Tickets}
-use Rattle.tickets.specs.Tickets.{absentSlot, ticketOf, withTicket, hasTicket, wellMade}
+use Rattle.tickets.specs.Tickets.{Tickets, noTicket, ticketOf, withTicket, hasTicket, wellMade}
 use Rattle.tickets.specs.Steps.{lookOf}
 use Rattle.edits.specs.declared.Edit.{Edit}
 use Rattle.edits.specs.Ranges.{editInRange, editRepeats}
@@ -33,8 +31,7 @@ use Rattle.frames.specs.Fields.{frameTorn, kindUnknown, lengthWrong, angleOutOf
 use Rattle.frames.proofs.Headers.{edit-kind, other-kind, kind-tests, refused-tests, edit-asked, step-asked, look-asked, view-asked}
 use Rattle.calls.specs.declared.Aim.{Aim}
 use Rattle.calls.specs.declared.Aim.the-variants as Aim
-use Rattle.calls.specs.declared.Settled.{Settled}
-use Rattle.calls.specs.Call.{bookLengthWrong, outputShort, teamUnknown, ownTicketBadlyMade, opensOverTicket, stepWithoutTicket, refusalChecks, refusalOf, Done, done, requestDone, refusedOr, doneOf}
+use Rattle.calls.specs.Call.{teamUnknown, ownTicketBadlyMade, opensOverTicket, stepWithoutTicket, refusalChecks, refusalOf, Done, done, requestDone, refusedOr, doneOf}
 use Rattle.calls.proofs.Refusing.{firstFrom}
 use Rattle.calls.specs.Way.{aimBy, aimOf, slotOf, settledWith, lookSettled, openSettled, viewSettled, newSettled, teamSettled, settledBy, wayDone, wayOf, WayIsCall}
 
@@ -54,7 +51,7 @@ laterDone words tickets ranks angle request = refusedOr (firstFrom 6 (laterTests
 
 -- A slot stored back as it was leaves the table.
 pub slot-same : (tickets : Tickets) (team : ℕ) → withTicket tickets team (ticketOf tickets team) ≡ tickets
-slot-same tickets team i = record { slots = set-getD (tickets .slots) team absentSlot i }
+slot-same tickets team i = record { slots = set-getD (tickets .slots) team noTicket i }
 
 slot-kept : (tickets : Tickets) (team : ℕ) (answer : Answer) (words : Words) → done answer tickets words ≡ done answer (withTicket tickets team (ticketOf tickets team)) words
 slot-kept tickets team answer words = ap (λ t. done answer t words) (sym (slot-same tickets team))

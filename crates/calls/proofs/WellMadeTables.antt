@@ -1,26 +1,22 @@
 -- A table whose tickets are all well made stays so: the step keeps a ticket well made or ends it, and an edit or a view opens one that is.
-use Prim.Native.Nat.{ℕ, zero, suc, _+_, _-_, _<_, _≤_}
-use mathlib.Core.Path.{_≡_, refl, sym, ap, subst, _∙_}
+use Prim.Native.Nat.{ℕ, zero, suc, _-_, _<_}
+use mathlib.Core.Path.{_≡_, refl, ap, _∙_}
 use mathlib.Core.List.{List, [], _∷_}
 use mathlib.Core.Logic.{inl, inr}
-use mathlib.Core.Bool.{Bool, true, false, cond, not, false≢true}
-use native.Mathlib.Omega.{arith}
-use native.Mathlib.Decide.{ℕ-discrete}
+use mathlib.Core.Bool.{Bool, true, false, cond, not}
 use borrow.Author.Tests.{lt-ltb}
 use lib.Dec.{eqb}
-use lib.ListN.{length, getD, set, take, drop}
-use Rattle.words.specs.Words.{Words, teamCount}
+use lib.ListN.{length, getD, take}
+use Rattle.words.specs.Words.{Words}
 use Rattle.words.proofs.Tests.{join}
 use Rattle.legs.specs.Positions.{Ranks}
-use Rattle.tickets.specs.declared.Ticket.{Ticket}
-use Rattle.tickets.specs.declared.Tickets.{Tickets}
-use Rattle.tickets.specs.Tickets.{noTicket, absentSlot, ticketOf, withTicket, hasTicket, wellMade}
+use Rattle.tickets.specs.Tickets.{Ticket, hasTicket, wellMade, SlotWellMade}
 use Rattle.tickets.specs.Steps.{stepOf}
 use Rattle.tickets.proofs.WellMade.{well-made-kept}
+use Rattle.tickets.proofs.MadeTables.{empty-well-made}
 use Rattle.edits.specs.declared.Edit.{Edit}
 use Rattle.edits.specs.Ranges.{editInRange, editRepeats}
 use Rattle.edits.specs.Views.{viewInRange, viewRepeats, openedView}
-use Rattle.edits.specs.Opened.{openedTicket}
 use Rattle.edits.proofs.Stored.{opened-tickets-well-made}
 use Rattle.edits.proofs.Views.{words-named, opened-views-well-made}
 use Rattle.frames.specs.declared.Answer.the-variants as Answer
@@ -33,8 +29,7 @@ use Rattle.frames.proofs.Asked.{edit-stations}
 use Rattle.frames.proofs.Bytes.{first-byte, bytes-after}
 use Rattle.calls.specs.declared.Aim.{Aim}
 use Rattle.calls.specs.declared.Aim.the-variants as Aim
-use Rattle.calls.specs.declared.Settled.{Settled}
-use Rattle.calls.specs.Way.{AimKnown, SlotWellMade, TableWellMade, slotWellMade, wellMadeFrom, settledWith, lookSettled, openSettled, viewSettled, stepSettled, newSettled, teamSettled, settledBy}
+use Rattle.calls.specs.Way.{Settled, AimKnown, settledWith, lookSettled, openSettled, viewSettled, stepSettled, newSettled, teamSettled, settledBy}
 use Rattle.calls.proofs.Refusing.{named-many, fine-view}
 
 -- Bytes one by one, and the first of them.
@@ -48,61 +43,6 @@ unfolding areBytes
 bytes-before zero bytes h = refl
 bytes-before (suc many) [] h = refl
 bytes-before (suc many) (byte ∷ bytes) h = rw (lt-ltb byte 256 (first-byte byte bytes h .0)) (bytes-before many bytes (first-byte byte bytes h .1))
-
--- A slot without a ticket passes, and the test of a slot says that it does.
-empty-well-made : (ticket : Ticket) → hasTicket (ticket .phase) ≡ false → SlotWellMade ticket
-empty-well-made ticket empty stands = absurd (false≢true (sym empty ∙ stands))
-
-test-well-made : (ticket : Ticket) → slotWellMade ticket ≡ true → SlotWellMade ticket
-test-well-made ticket tested stands = go (hasTicket (ticket .phase)) stands tested
-  where
-    go : (has : Bool) → has ≡ true → cond has (wellMade ticket) true ≡ true → wellMade ticket ≡ true
-    go true s t = t
-    go false s t = absurd (false≢true s)
-
--- The slots from one on, tested one after another.
-pub well-made-next : (tickets : Tickets) (k : ℕ) → k < teamCount → wellMadeFrom k (teamCount - k) tickets ≡ cond (slotWellMade (ticketOf tickets k)) (wellMadeFrom (k + 1) (teamCount - (k + 1)) tickets) false
-unfolding wellMadeFrom
-well-made-next tickets k inside =
-    let one-more : teamCount - k ≡ suc (teamCount - (k + 1)) = omega arith in
-    ap (λ (m : ℕ). wellMadeFrom k m tickets) one-more
-
-pub well-made-none : (tickets : Tickets) (k : ℕ) → teamCount ≤ k → wellMadeFrom k (teamCount - k) tickets ≡ true
-unfolding wellMadeFrom
-well-made-none tickets k outside =
-    let none : teamCount - k ≡ 0 = omega arith in
-    ap (λ (m : ℕ). wellMadeFrom k m tickets) none
-
-each-from : (tickets : Tickets) (many k : ℕ) → wellMadeFrom k many tickets ≡ true → (team : ℕ) → k ≤ team → team < k + many → SlotWellMade (ticketOf tickets team)
-unfolding wellMadeFrom
-each-from tickets zero k all team least below = absurd (empty least below)
-  where
-    empty : k ≤ team → team < k + 0 → ⊥
-    empty a b = omega arith
-each-from tickets (suc many) k all team least below = go (slotWellMade (ticketOf tickets k)) refl all (λ later first last. each-from tickets many (k + 1) later team first last)
-  where
-    go : (here : Bool) → slotWellMade (ticketOf tickets k) ≡ here → cond here (wellMadeFrom (k + 1) many tickets) false ≡ true
-        → (wellMadeFrom (k + 1) many tickets ≡ true → k + 1 ≤ team → team < k + 1 + many → SlotWellMade (ticketOf tickets team)) → SlotWellMade (ticketOf tickets team)
-    go true is later rest = elim (ℕ-discrete team k) [
-      | yes same ↦ subst (λ (t : ℕ). SlotWellMade (ticketOf tickets t)) (sym same) (test-well-made (ticketOf tickets k) is)
-      | no other ↦ rest later (omega arith) (omega arith)
-    ]
-    go false is later rest = absurd (false≢true later)
-
-pub all-well-made : (tickets : Tickets) → wellMadeFrom 0 teamCount tickets ≡ true → TableWellMade tickets
-all-well-made tickets all team inside = each-from tickets teamCount 0 all team (omega arith) (omega arith)
-
--- Another ticket in one slot.
-set-well-made : (In : ℕ → Type 0) (slots : List Ticket) (slot : ℕ) (ticket : Ticket) → ((team : ℕ) → In team → SlotWellMade (getD slots team absentSlot)) → SlotWellMade ticket
-    → (team : ℕ) → In team → SlotWellMade (getD (set slots slot ticket) team absentSlot)
-set-well-made In [] slot ticket each mine team inside = each team inside
-set-well-made In (first ∷ slots) zero ticket each mine zero inside = mine
-set-well-made In (first ∷ slots) zero ticket each mine (suc team) inside = each (suc team) inside
-set-well-made In (first ∷ slots) (suc slot) ticket each mine zero inside = each zero inside
-set-well-made In (first ∷ slots) (suc slot) ticket each mine (suc team) inside = set-well-made (λ t. In (suc t)) slots slot ticket (λ t. each (suc t)) mine team inside
-
-pub with-well-made : (tickets : Tickets) (slot : ℕ) (ticket : Ticket) → TableWellMade tickets → SlotWellMade ticket → TableWellMade (withTicket tickets slot ticket)
-with-well-made tickets slot ticket all mine = set-well-made (λ team. team < teamCount) (tickets .slots) slot ticket all mine
 
 -- What a frame makes of a slot that passes, passes.
 step-well-made : (words : Words) (ticket : Ticket) (team : ℕ) → wellMade ticket ≡ true → SlotWellMade (stepOf words ticket team .0 .ticket)

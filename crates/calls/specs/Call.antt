@@ -8,11 +8,9 @@ use lib.Dec.{eqb, ltb}
 use Rattle.words.specs.Tests.{allHold, occurs}
 use Rattle.words.specs.Words.{Words, wordsInBook, teamCount}
 use Rattle.legs.specs.Positions.{Ranks, isPermutation}
-use Rattle.tickets.specs.declared.Ticket.{Ticket}
-use Rattle.tickets.specs.declared.Tickets.{Tickets}
-use Rattle.tickets.specs.declared.Stepped.{Stepped}
-use Rattle.tickets.specs.Tickets.{ticketOf, withTicket, hasTicket, wellMade}
-use Rattle.tickets.specs.Steps.{stepOf, lookOf}
+use Rattle.tickets.specs.Tickets.{Ticket, Tickets, ticketOf, withTicket, hasTicket, wellMade}
+use Rattle.tickets.specs.Steps.{Stepped, stepOf, lookOf}
+use Rattle.tickets.specs.Table.{tableOf}
 use Rattle.edits.specs.Opened.{targetCount, openedTicket}
 use Rattle.edits.specs.Views.{openedView}
 use Rattle.frames.specs.Request.{Request, Open, Step, Look, View}
@@ -22,7 +20,7 @@ use Rattle.frames.specs.Numbers.{Bytes}
 use Rattle.frames.specs.Requests.{requestIn}
 use Rattle.frames.specs.Answers.{answerFrame, longestAnswer, written}
 use Rattle.frames.specs.Fields.{frameTorn, kindUnknown, lengthWrong, fieldOutOfRange, fieldRepeated}
-use Rattle.calls.specs.declared.Reply.{Reply}
+use Rattle.calls.specs.declared.Reply as Code
 
 -- 1. The book isn't 4,096 words long.
 abbrev pub bookLengthWrong : Words → Bool
@@ -148,6 +146,15 @@ sentOf (Answer.Refused refusal) = cond (isReturned refusal) (number refusal) (by
 abbrev pub writtenBy : Bytes → Sent → ℕ × Bytes
 writtenBy out (number refusal) = (refusal, out)
 writtenBy out (bytes answer) = written out answer
+
+-- What the call returns: the bytes written (1, 13 or 2 for those refusals), and the tickets.
+pub record Reply : Type 0 where
+  pub written : ℕ
+  pub tickets : Tickets
+
+-- What the code's reply says.
+abbrev pub replyOf : Code.Reply → Reply
+replyOf reply = record { written = reply .written; tickets = tableOf (reply .tickets) }
 
 -- What the call does, for every book, table, ranks, frame and output: return and tickets, the words, the output's bytes. It writes no rank.
 unfoldable pub callOf : Words → Tickets → Ranks → Bytes → Bytes → Reply × Words × Bytes

@@ -4,14 +4,14 @@ use mathlib.Core.Path.{_≡_}
 use mathlib.Core.Bool.{true}
 use mathlib.Core.Option.{none, some}
 use lib.ListN.{length, take, drop}
-use Rattle.words.specs.Words.{Words, mostTargets, teamCount}
+use Rattle.words.specs.Words.{Words, teamCount}
 use Rattle.legs.specs.Positions.{Ranks}
-use Rattle.tickets.specs.declared.Ticket.{Ticket}
-use Rattle.tickets.specs.declared.Tickets.{Tickets}
+use Rattle.tickets.specs.declared.Tickets as Code
+use Rattle.tickets.specs.Tickets.{Tickets, ticketOf}
 use Rattle.tickets.specs.declared.StepAnswer.{StepAnswer}
 use Rattle.tickets.specs.declared.LookAnswer.{LookAnswer}
-use Rattle.tickets.specs.Tickets.{ticketOf}
 use Rattle.tickets.specs.Steps.{mostTries}
+use Rattle.tickets.specs.Table.{tableOf, slotOf}
 use Rattle.edits.specs.Opened.{targetCount}
 use Rattle.frames.specs.Request.{Request, Open, Step, Look, View}
 use Rattle.frames.specs.declared.Answer.{Answer}
@@ -23,17 +23,16 @@ use Rattle.frames.specs.Reading.{answerIn, answerFits}
 use Rattle.calls.specs.Call.{refusalOf, isReturned, doneOf, callOf}
 use Rattle.calls.specs.Run.{framed, Shared, answerHeard, heardOf}
 
--- A slot as the code has it: room for six targets, and tries of 32 bits.
-pub record SlotFits (ticket : Ticket) : Type 0 where
-  pub words : length (ticket .words) ≡ mostTargets
-  pub quoted : length (ticket .quoted) ≡ mostTargets
-  pub new : length (ticket .new) ≡ mostTargets
-  pub tries : ticket .tries ≤ mostTries
-
--- A table as the code has it: sixteen such slots.
+-- A table as the code has it: sixteen slots, and tries of 32 bits.
 pub record TableFits (tickets : Tickets) : Type 0 where
   pub teams : length (tickets .slots) ≡ teamCount
-  pub slots : (team : ℕ) → team < teamCount → SlotFits (ticketOf tickets team)
+  pub tries : (team : ℕ) → team < teamCount → ticketOf tickets team .tries ≤ mostTries
+
+-- Statement: what every table of the code says is one, whatever its targets are.
+abbrev pub CodeTablesFit : Type 0
+CodeTablesFit =
+    (table : Code.Tickets) → length (table .slots) ≡ teamCount → ((team : ℕ) → team < teamCount → slotOf table team .tries ≤ mostTries)
+    → TableFits (tableOf table)
 
 -- The answers that fit a request: an edit or a view gets Standing with the number of its targets, a step a step's answer, a look Value or Held.
 pub data AnswerTo : Request → Answer → Type 0 where

@@ -6,9 +6,8 @@ use lib.ListN.{length}
 use Rattle.words.specs.Words.{Words, isHeld, readOf, swapOf}
 use Rattle.legs.specs.Positions.{Ranks, FixedRanksArePermutation, PositionsDiffer}
 use Rattle.legs.specs.Reading.{LegsReadBack, OnlyLegsRead}
-use Rattle.tickets.specs.declared.Tickets.{Tickets}
+use Rattle.tickets.specs.Tickets.{Tickets, ticketOf, withTicket}
 use Rattle.tickets.specs.declared.LookAnswer.the-variants.{Held, Value}
-use Rattle.tickets.specs.Tickets.{ticketOf, withTicket}
 use Rattle.tickets.specs.Steps.{swapTried, settled}
 use Rattle.tickets.specs.Swapping.{StepSwapsOneWord, ViewsTakeAnyValue, WaitingTellsHolder}
 use Rattle.edits.specs.Opened.{targetCount, openedTicket}

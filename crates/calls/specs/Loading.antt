@@ -9,8 +9,7 @@ use lib.ListN.{length}
 use Rattle.words.specs.Tests.{occurs}
 use Rattle.words.specs.Words.{Words, wordsInBook, teamCount, passageCount}
 use Rattle.legs.specs.Positions.{Ranks}
-use Rattle.tickets.specs.declared.Tickets.{Tickets}
-use Rattle.tickets.specs.Tickets.{ticketOf, hasTicket}
+use Rattle.tickets.specs.Tickets.{Tickets, ticketOf, hasTicket}
 use Rattle.calls.specs.declared.Outcome.{Outcome}
 use Rattle.calls.specs.declared.Outcome.the-variants as Outcome
 use Rattle.calls.specs.Call.{Check, check, firstOf, bookLengthWrong, ranksWrong}

@@ -8,7 +8,7 @@ use Rattle.words.specs.Tests.{allHold}
 use Rattle.words.specs.Words.{Words}
 use Rattle.legs.specs.Positions.{Ranks}
 use Rattle.legs.specs.Minutes.{anglesInRange}
-use Rattle.tickets.specs.declared.Tickets.{Tickets}
+use Rattle.tickets.specs.Tickets.{Tickets}
 use Rattle.edits.specs.declared.Edit.{Edit}
 use Rattle.frames.specs.declared.Answer.{Answer}
 use Rattle.frames.specs.declared.Header.the-variants.{Kind}

@@ -1,5 +1,5 @@
 -- An input that comes in pieces, as reads give it: what is written for it, turn after turn.
-use Prim.Native.Nat.{_+_, _*_, _≤_}
+use Prim.Native.Nat.{_+_, _≤_}
 use mathlib.Core.Path.{_≡_}
 use mathlib.Core.Bool.{Bool, true, false, cond}
 use mathlib.Core.List.{List, [], _∷_, _++_}
@@ -7,17 +7,16 @@ use lib.ListN.{length, drop}
 use Rattle.words.specs.Tests.{Every}
 use Rattle.words.specs.Words.{Words}
 use Rattle.legs.specs.Positions.{Ranks, Accepted}
-use Rattle.tickets.specs.declared.Tickets.{Tickets}
+use Rattle.tickets.specs.Tickets.{Tickets}
 use Rattle.frames.specs.declared.Answer.the-variants.{Refused}
 use Rattle.frames.specs.Numbers.{Bytes}
-use Rattle.frames.specs.Answers.{answerFrame, longestAnswer}
+use Rattle.frames.specs.Answers.{answerFrame}
 use Rattle.frames.specs.Fields.{longestFrame}
 use Rattle.calls.specs.declared.Stop.{Stop}
 use Rattle.calls.specs.declared.Stop.the-variants.{MoreInput, OutputFull, BadLength, NoBook, NoRanks}
-use Rattle.calls.specs.declared.Streamed.{Streamed}
 use Rattle.calls.specs.Run.{fresh}
 use Rattle.calls.specs.Survey.{joined, atEnd, surveyUnder}
-use Rattle.calls.specs.Stream.{streamOf, Roomy, bytesOf}
+use Rattle.calls.specs.Stream.{Streamed, streamOf, roomFor, Roomy, bytesOf}
 
 -- It reads on unless a length field is above 62. (No book, and ranks that are not accepted, never come to it: it lends a book of 4,096 words and accepted ranks.)
 abbrev pub goesOn : Stop → Bool
@@ -75,7 +74,7 @@ PiecesAreSurvey =
 
 -- Room for the answers to any one of the pieces, behind a frame of the longest kind.
 abbrev pub RoomForPieces : Bytes → List Bytes → Type 0
-RoomForPieces out pieces = Every (λ piece. longestAnswer * (longestFrame + length piece) ≤ 2 * length out) pieces
+RoomForPieces out pieces = Every (λ piece. roomFor (longestFrame + length piece) ≤ length out) pieces
 
 -- Statement: that is room at each turn, since less than such a frame is ever kept.
 abbrev pub PiecesHaveRoom : Type 0

@@ -7,8 +7,7 @@ use mathlib.Core.Option.{Option, some}
 use lib.ListN.{take, replicate}
 use Rattle.words.specs.Words.{Words, wordsInBook}
 use Rattle.legs.specs.Positions.{Ranks, fixedRanks}
-use Rattle.tickets.specs.declared.Tickets.{Tickets}
-use Rattle.tickets.specs.Tickets.{freshTickets}
+use Rattle.tickets.specs.Tickets.{Tickets, freshTickets}
 use Rattle.frames.specs.declared.Answer.{Answer}
 use Rattle.frames.specs.declared.Answer.the-variants.{Refused}
 use Rattle.frames.specs.Numbers.{Bytes, areBytes}

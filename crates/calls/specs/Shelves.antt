@@ -7,7 +7,7 @@ use lib.Dec.{eqb, ltb}
 use lib.ListN.{length, getD, set, take, drop}
 use Rattle.words.specs.Tests.{someHolds}
 use Rattle.words.specs.Words.{Words, wordsInBook, shelfCount, wordsInStore}
-use Rattle.tickets.specs.declared.Tickets.{Tickets}
+use Rattle.tickets.specs.Tickets.{Tickets}
 use Rattle.calls.specs.declared.Outcome.{Outcome}
 use Rattle.calls.specs.Call.{check, firstOf, bookLengthWrong}
 use Rattle.calls.specs.Outcomes.{outcomeOf, ticketStands}

@@ -10,17 +10,18 @@ use lib.Dec.{eqb, ltb}
 use Rattle.words.specs.Tests.{Every}
 use Rattle.words.specs.Words.{Words, wordsInBook}
 use Rattle.legs.specs.Positions.{Ranks, isPermutation, Accepted}
-use Rattle.tickets.specs.declared.Tickets.{Tickets}
+use Rattle.tickets.specs.Tickets.{Tickets}
+use Rattle.tickets.specs.Table.{tableOf}
 use Rattle.frames.specs.Numbers.{Bytes, number16}
 use Rattle.frames.specs.Requests.{lengthField}
-use Rattle.frames.specs.Answers.{longestAnswer, written}
+use Rattle.frames.specs.Answers.{longestAnswer, roomIn, withRoom}
 use Rattle.calls.specs.declared.Stop.{Stop}
 use Rattle.calls.specs.declared.Stop.the-variants.{MoreInput, OutputFull, BadLength, NoBook, NoRanks}
 use Rattle.calls.specs.declared.Next.{Next}
 use Rattle.calls.specs.declared.Next.the-variants.{Frame, End}
-use Rattle.calls.specs.declared.Streamed.{Streamed}
+use Rattle.calls.specs.declared.Streamed as Code
 use Rattle.calls.specs.Call.{bookLengthWrong, ranksWrong, Check, check, firstOf, callOf}
-use Rattle.calls.specs.Run.{Shared, fresh, onward, Run, runFrom, sharing}
+use Rattle.calls.specs.Run.{Shared, Run, runFrom, sharing}
 use Rattle.frames.specs.Fields.{longestFrame}
 use Rattle.calls.specs.Survey.{longestField, joined, allWritten, callsOn}
 
@@ -36,18 +37,16 @@ abbrev pub NextInside : Bytes → ℕ → Next → Type 0
 NextInside input at (End stop) = Unit {0}
 NextInside input at (Frame size) = (2 ≤ size) × (at + size ≤ length input)
 
--- What is left of an output from a place on, and the output with that part written, as the language takes a part of a slice up to its end.
-abbrev pub roomIn : Bytes → ℕ → Bytes
-roomIn out at = take (length out - at) (drop at out)
+-- What a stream returns: the tickets, the bytes consumed and written, and why it stopped.
+pub record Streamed : Type 0 where
+  pub tickets : Tickets
+  pub consumed : ℕ
+  pub written : ℕ
+  pub stop : Stop
 
-abbrev pub withRoom : Bytes → ℕ → Bytes → Bytes
-withRoom out at room = take at out ++ (room ++ drop (length out - at) (drop at out))
-
--- An answer put at a place of an output: the place after it, and the output with it.
-abbrev pub PutAt : Bytes → ℕ → Bytes → ℕ → Bytes → Type 0
-PutAt out at answer place output =
-    let sent = written (roomIn out at) answer in
-    ((place ≡ at + sent .0) × (place ≤ length out)) × ((output ≡ withRoom out at (sent .1)) × (length output ≡ length out))
+-- What the code's says.
+abbrev pub streamedOf : Code.Streamed → Streamed
+streamedOf result = record { tickets = tableOf (result .tickets); consumed = result .consumed; written = result .written; stop = result .stop }
 
 abbrev pub streamed : Tickets → ℕ → ℕ → Stop → Streamed
 streamed tickets consumed written stop = record { tickets = tickets; consumed = consumed; written = written; stop = stop }
@@ -132,9 +131,23 @@ StreamIsRun =
     → length words ≡ wordsInBook → Accepted ranks
     → StreamRight (sharing words tickets ranks) input out (streamOf words tickets ranks input out)
 
--- Room for every answer: a frame has at least two bytes, an answer at most 52.
+-- So many bytes of answer at most for a byte of frame: a frame of fewer than six bytes is refused, which takes six bytes, and six bytes are enough for 52.
+abbrev pub answerRatio : ℕ
+answerRatio = 9
+
+-- Statement: no call returns more than so many times the bytes of its frame.
+abbrev pub AnswersWithinRatio : Type 0
+AnswersWithinRatio =
+    (words : Words) (tickets : Tickets) (ranks : Ranks) (frame out : Bytes) → 2 ≤ length frame
+    → callOf words tickets ranks frame out .0 .written ≤ answerRatio * length frame
+
+-- Room for the answers to so many bytes of frames: a stream stops where there is less of it than the longest answer takes, however short the next one is.
+abbrev pub roomFor : ℕ → ℕ
+roomFor bytes = answerRatio * bytes + longestAnswer
+
+-- Room for every answer.
 abbrev pub Roomy : Bytes → Bytes → Type 0
-Roomy input out = longestAnswer * length input ≤ 2 * length out
+Roomy input out = roomFor (length input) ≤ length out
 
 -- Statement: with such room a stream never stops for want of it: it stops at a length field above 62, or where more input is needed and less than a frame of the longest kind is left.
 abbrev pub RoomSuffices : Type 0

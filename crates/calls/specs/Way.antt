@@ -1,17 +1,13 @@
 -- The way of one frame, as the code goes it: where it is aimed, the slot it uses, what is made of the ticket there. It is shown equal to the call's definition.
-use Prim.Native.Nat.{ℕ, zero, suc, _+_, _-_, _≤_, _<_}
+use Prim.Native.Nat.{ℕ, _-_, _≤_, _<_}
 use mathlib.Core.Path.{_≡_}
 use mathlib.Core.Bool.{Bool, true, false, cond, not}
 use lib.ListN.{length}
 use lib.Dec.{eqb, ltb}
 use Rattle.words.specs.Words.{Words, wordsInBook, teamCount}
 use Rattle.legs.specs.Positions.{Ranks, Accepted}
-use Rattle.tickets.specs.declared.Ticket.{Ticket}
-use Rattle.tickets.specs.declared.Tickets.{Tickets}
-use Rattle.tickets.specs.declared.Stepped.{Stepped}
-use Rattle.tickets.specs.Tickets.{ticketOf, withTicket, hasTicket, wellMade}
-use Rattle.tickets.specs.Steps.{stepOf, lookOf}
-use Rattle.tickets.specs.Going.{isEdit}
+use Rattle.tickets.specs.Tickets.{Ticket, Tickets, ticketOf, withTicket, hasTicket, wellMade}
+use Rattle.tickets.specs.Steps.{Stepped, stepOf, lookOf}
 use Rattle.edits.specs.declared.View.{View}
 use Rattle.edits.specs.Opened.{targetCount, openedTicket}
 use Rattle.edits.specs.Views.{wordsNamed, openedView}
@@ -27,10 +23,9 @@ use Rattle.frames.specs.declared.ViewRead.{ViewRead}
 use Rattle.frames.specs.Numbers.{Bytes, number16}
 use Rattle.frames.specs.Requests.{partAfterKind, stepKind, lookKind, viewKind, lengthOfKind, isEditKind, isKind, teamIn, viewWordsIn}
 use Rattle.frames.specs.Answers.{longestAnswer}
-use Rattle.frames.specs.Fields.{headerOf, readEdit, viewRead, ViewFields, FieldsOf, Whole}
+use Rattle.frames.specs.Fields.{headerOf, readEdit, viewRead, FieldsOf, Whole}
 use Rattle.calls.specs.declared.Aim.{Aim}
 use Rattle.calls.specs.declared.Aim.the-variants as Aim
-use Rattle.calls.specs.declared.Settled.{Settled}
 use Rattle.calls.specs.Call.{Done, done, doneOf}
 
 -- Where a frame goes: back, refused by 3 to 6; to a look; or to a team, with its kind.
@@ -69,6 +64,11 @@ slotOf (Aim.Refused number) = 0
 slotOf Aim.Look = 0
 slotOf (Aim.Team kind team) = team
 
+-- What a frame makes of the ticket in its slot, and its answer.
+pub record Settled : Type 0 where
+  pub ticket : Ticket
+  pub answer : Answer
+
 abbrev pub settledWith : Ticket → Answer → Settled
 settledWith ticket answer = record { ticket = ticket; answer = answer }
 
@@ -106,21 +106,6 @@ pub record EditFields (part : Bytes) (kind : ℕ) : Type 0 where
   pub edit : isEditKind kind ≡ true
   pub long : length part ≡ lengthOfKind kind - 2
 
--- A slot passes: a ticket that it has is well made (it is not `badlyMade`). A table passes, if all its slots do.
-abbrev pub SlotWellMade : Ticket → Type 0
-SlotWellMade ticket = hasTicket (ticket .phase) ≡ true → wellMade ticket ≡ true
-
-abbrev pub TableWellMade : Tickets → Type 0
-TableWellMade tickets = (team : ℕ) → team < teamCount → SlotWellMade (ticketOf tickets team)
-
--- The same as tests: of one slot, and of so many slots from one on.
-abbrev pub slotWellMade : Ticket → Bool
-slotWellMade ticket = cond (hasTicket (ticket .phase)) (wellMade ticket) true
-
-unfoldable pub wellMadeFrom : ℕ → ℕ → Tickets → Bool
-wellMadeFrom k zero tickets = true
-wellMadeFrom k (suc more) tickets = cond (slotWellMade (ticketOf tickets k)) (wellMadeFrom (k + 1) more tickets) false
-
 -- A team's frame: refusals 7, 8 and 9 by its ticket and kind, else a step, a view or an edit.
 unfoldable pub teamSettled : Words → Ticket → Ranks → Bytes → ℕ → ℕ → Settled × Words
 teamSettled words ticket ranks part kind team =
@@ -130,11 +115,7 @@ teamSettled words ticket ranks part kind team =
     (settledWith ticket (Answer.Refused 7), words))
     (cond (eqb kind stepKind) (settledWith ticket (Answer.Refused 9), words) (newSettled ticket ranks part kind, words))
 
--- Whether a frame steps an edit's ticket that is known to be well made,
-abbrev pub stepsEdit : Ticket → Bool → ℕ → Bool
-stepsEdit ticket known kind = cond (eqb kind stepKind) (cond known (isEdit (ticket .phase)) false) false
-
--- and whether it is an edit of a team without a ticket. The stream has a way of its own for both.
+-- Whether a frame is an edit of a team without a ticket, for which the stream has a way of its own.
 abbrev pub opensEdit : Ticket → ℕ → Bool
 opensEdit ticket kind = cond (isEditKind kind) (not (hasTicket (ticket .phase))) false
 

@@ -1,7 +1,5 @@
 // What a call and a stream give, as types. What they are is said in specs/, with the theorems about every list of
 // calls; the code stands in the crate book.
-use frames::Answer;
-use tickets::Ticket;
 use tickets::Tickets;
 
 // What the call returns: the bytes written (1, 13 or 2 for those refusals), and the tickets.
@@ -23,12 +21,6 @@ pub enum Aim {
     Team(u16, u16),
 }
 
-// What a frame makes of the ticket in its slot, and its answer.
-pub struct Settled {
-    pub ticket: Ticket,
-    pub answer: Answer,
-}
-
 // Why a stream stopped: the rest is no whole frame yet; there is no room for an answer; a length field is too
 // large; the book has another length; the ranks are not each of 0 to 31.
 pub enum Stop {
@@ -39,6 +31,7 @@ pub enum Stop {
     NoRanks,
 }
 
+// What a stream returns: the tickets, the bytes consumed and written, and why it stopped.
 pub struct Streamed {
     pub tickets: Tickets,
     pub consumed: usize,

@@ -10,7 +10,7 @@ use lib.ListN.{length, getD, set, take, drop, replicate, length-append}
 use lib.Seq.{take-at, set-at}
 use borrow.Author.Tests.{eq-eqb, ne-eqb}
 use Rattle.words.specs.Tests.{allHold, distinct}
-use Rattle.words.specs.Words.{wordsInBook, mostTargets}
+use Rattle.words.specs.Words.{wordsInBook, mostNamed}
 use Rattle.words.proofs.Numbers.{next-number, no-number-left}
 use Rattle.tickets.specs.Tickets.{padded}
 use Rattle.edits.specs.Views.{allInBook, viewInRange, viewRepeats}
@@ -33,17 +33,17 @@ another16 (suc many) bytes at =
     (another16 many bytes (at + 2) ∙ ap (λ (k : ℕ). numbers16 many bytes (at + 2) ++ (number16 bytes k ∷ [])) there)
 
 -- A number put where the zeros begin.
-put-next : (before : List ℕ) (k number : ℕ) → length before ≡ k → k < mostTargets → set (padded before) k number ≡ padded (before ++ (number ∷ []))
+put-next : (before : List ℕ) (k number : ℕ) → length before ≡ k → k < mostNamed → set (padded before) k number ≡ padded (before ++ (number ∷ []))
 put-next before k number size room =
-    let free : mostTargets - length before ≡ suc (mostTargets - (k + 1)) = omega arith in
+    let free : mostNamed - length before ≡ suc (mostNamed - (k + 1)) = omega arith in
     let long : length (before ++ (number ∷ [])) ≡ k + 1 = length-append before (number ∷ []) ∙ ap (λ (i : ℕ). i + 1) size in
     ap (λ (i : ℕ). set (before ++ replicate i 0) k number) free
-    ∙ set-at before 0 (replicate (mostTargets - (k + 1)) 0) number k size
-    ∙ sym (append-assoc before (number ∷ []) (replicate (mostTargets - (k + 1)) 0))
-    ∙ ap (λ (i : ℕ). (before ++ (number ∷ [])) ++ replicate (mostTargets - i) 0) (sym long)
+    ∙ set-at before 0 (replicate (mostNamed - (k + 1)) 0) number k size
+    ∙ sym (append-assoc before (number ∷ []) (replicate (mostNamed - (k + 1)) 0))
+    ∙ ap (λ (i : ℕ). (before ++ (number ∷ [])) ++ replicate (mostNamed - i) 0) (sym long)
 
 -- One more word of a view, after k of them.
-pub word-read : (part : Bytes) (k word : ℕ) → k < mostTargets → word ≡ number16 part (4 + 2 * k) → set (padded (numbers16 k part 4)) k word ≡ padded (numbers16 (k + 1) part 4)
+pub word-read : (part : Bytes) (k word : ℕ) → k < mostNamed → word ≡ number16 part (4 + 2 * k) → set (padded (numbers16 k part 4)) k word ≡ padded (numbers16 (k + 1) part 4)
 word-read part k word room is =
     put-next (numbers16 k part 4) k word (length-numbers16 k part 4) room
     ∙ ap (λ (v : ℕ). padded (numbers16 k part 4 ++ (v ∷ []))) is
@@ -86,7 +86,7 @@ module _ (part : Bytes) {n : ℕ} {room : List ℕ} (is : n ≡ number16 part 2)
   counted = eq-eqb _ _ (sym is ∙ same ∙ sym size)
 
   there : take many room ≡ words
-  there = ap (take many) held ∙ take-at words (replicate (mostTargets - length words) 0) many size
+  there = ap (take many) held ∙ take-at words (replicate (mostNamed - length words) 0) many size
 
   -- a word that isn't of the book is refused by 10 too,
   pub outside : allInBook (take many room) ≡ false → readAs (Reading.Refused 10) [] ≡ viewRead (number16 part 2) words

@@ -4,7 +4,7 @@ ghost use mathlib.Core.Bool.{true};
 ghost use mathlib.Core.List.{[], _∷_};
 ghost use Prim.Native.Nat.{_+_, _*_, _-_, _≤_};
 ghost use lib.ListN.{length, take};
-ghost use Rattle.words.specs.Words.{mostTargets};
+ghost use Rattle.words.specs.Words.{mostNamed};
 ghost use Rattle.tickets.specs.Tickets.{padded};
 ghost use Rattle.edits.specs.declared.Edit.the-variants as Edit;
 ghost use Rattle.edits.specs.Views.{allInBook};
@@ -230,11 +230,11 @@ pub fn read_edit(kind: u16, part: &[u8]) -> EditRead
 }
 
 // The words that a view names, zeros behind them.
-fn named_words(part: &[u8], n: usize) -> [u64; Limits::TARGETS]
-    requires { ⌜ (n ≤ mostTargets) × (length (now part) ≡ 4 + 2 * n) ⌝ }
+fn named_words(part: &[u8], n: usize) -> [u64; Limits::NAMED]
+    requires { ⌜ (n ≤ mostNamed) × (length (now part) ≡ 4 + 2 * n) ⌝ }
     ensures { λ r. ⌜ r ≡ padded (viewWordsIn (now (part .entry))) ⌝ }
 {
-    let mut words = [0u64; Limits::TARGETS];
+    let mut words = [0u64; Limits::NAMED];
     let mut k: usize = 0;
     while k < n {
         words[k] = read16(part, 2 * Frame::FIELD + Frame::FIELD * k) as u64;
@@ -244,8 +244,8 @@ fn named_words(part: &[u8], n: usize) -> [u64; Limits::TARGETS]
 }
 
 // Whether the first n are words of the book.
-fn all_in_book(words: [u64; Limits::TARGETS], n: usize) -> bool
-    requires { ⌜ n ≤ mostTargets ⌝ }
+fn all_in_book(words: [u64; Limits::NAMED], n: usize) -> bool
+    requires { ⌜ n ≤ mostNamed ⌝ }
     ensures { λ r. ⌜ r ≡ allInBook (take n words) ⌝ }
 {
     let mut k: usize = 0;
@@ -266,7 +266,7 @@ fn refused_view(number: u16) -> ViewRead
         reading: Reading::Refused(number),
         view: View {
             n: 0,
-            words: [0; Limits::TARGETS],
+            words: [0; Limits::NAMED],
         },
     }
 }

@@ -1,10 +1,6 @@
 // Lines of text on standard output.
 ghost use Prim.Native.Nat.{_<_};
-ghost use Rattle.words.specs.Words.{mostTargets};
 use libc::STDOUT_FILENO;
-use tickets::Phase;
-use tickets::Ticket;
-use words::Limits;
 
 pub fn text(bytes: &[u8]) {
     io::write_all(STDOUT_FILENO, bytes);
@@ -17,6 +13,14 @@ pub fn plain(n: u64) {
 pub fn number(n: u64) {
     text(b" ");
     plain(n);
+}
+
+pub fn numbers(part: &[u64]) {
+    let mut i: usize = 0;
+    while i < part.len() {
+        number(part[i]);
+        i += 1;
+    }
 }
 
 pub fn end() {
@@ -40,74 +44,4 @@ pub fn bytes(part: &[u8]) {
         byte(part[i]);
         i += 1;
     }
-}
-
-fn phase(phase: Phase) {
-    match phase {
-        Phase::NoTicket => text(b" none"),
-        Phase::Claiming => text(b" claiming"),
-        Phase::Putting => text(b" putting"),
-        Phase::GivingBack => text(b" giving-back"),
-        Phase::Viewing => text(b" viewing"),
-        Phase::Viewed => text(b" viewed"),
-    }
-}
-
-fn target(ticket: Ticket, k: usize)
-    requires { ⌜ k < mostTargets ⌝ }
-{
-    text(b" :");
-    number(ticket.words[k] as u64);
-    number(ticket.quoted[k]);
-    number(ticket.new[k]);
-}
-
-fn is_blank(ticket: Ticket, k: usize) -> bool
-    requires { ⌜ k < mostTargets ⌝ }
-{
-    if ticket.words[k] == 0 {
-        if ticket.quoted[k] == 0 {
-            return ticket.new[k] == 0;
-        }
-    }
-    false
-}
-
-// The targets that count, and those behind them that were lent with values.
-fn is_shown(ticket: Ticket, k: usize) -> bool
-    requires { ⌜ k < mostTargets ⌝ }
-{
-    if k < ticket.n as usize {
-        return true;
-    }
-    !is_blank(ticket, k)
-}
-
-fn show_target(ticket: Ticket, k: usize)
-    requires { ⌜ k < mostTargets ⌝ }
-{
-    if is_shown(ticket, k) {
-        target(ticket, k);
-    }
-}
-
-fn targets(ticket: Ticket) {
-    let mut k: usize = 0;
-    while k < Limits::TARGETS {
-        show_target(ticket, k);
-        k += 1;
-    }
-}
-
-pub fn ticket(team: usize, ticket: Ticket) {
-    let now = ticket.phase;
-    text(b"ticket");
-    number(team as u64);
-    phase(now);
-    number(ticket.n as u64);
-    number(ticket.claimed as u64);
-    number(ticket.done as u64);
-    number(ticket.tries as u64);
-    targets(ticket);
-    end();
 }

@@ -1,56 +1,50 @@
 // An answer's frame, written at the front of the output.
 ghost use mathlib.Core.Path.{_≡_};
-ghost use mathlib.Core.List.{[], _++_};
-ghost use Prim.Native.Nat.{ℕ, _+_, _≤_, min};
+ghost use mathlib.Core.List.{_++_};
+ghost use Prim.Native.Nat.{_+_, _≤_, min};
 ghost use lib.ListN.{length};
 ghost use lib.Seq.{sets};
-ghost use Rattle.words.specs.Words.{mostTargets};
-ghost use Rattle.tickets.specs.declared.StepAnswer.the-variants.{Seen};
-ghost use Rattle.tickets.specs.Steps.{asStep};
-ghost use Rattle.tickets.specs.Going.{wentAnswer};
+ghost use Rattle.words.specs.Words.{mostNamed};
+ghost use Rattle.tickets.specs.declared.StepAnswer.the-variants.{Claimed, Waiting, Found, Put, Returned, Granted, Stale, Seen};
+ghost use Rattle.tickets.specs.Steps.{valuesFrom};
 ghost use Rattle.frames.specs.declared.Answer.the-variants as Answer;
-ghost use Rattle.frames.specs.Numbers.{bytes16, bytes32, bytes64};
+ghost use Rattle.frames.specs.Numbers.{bytes16};
 ghost use Rattle.frames.specs.Requests.{headBytes};
 ghost use Rattle.frames.specs.Answers.{frameOf, answerFrame, longestAnswer, written};
-use frames::Answer;
 use frames::Frame;
 use frames::numbers::put16;
 use frames::numbers::put32;
 use frames::numbers::put64;
-use tickets::EditAnswer;
 use tickets::LookAnswer;
-use tickets::Phase;
-use tickets::StepAnswer;
-use tickets::Values;
 use words::Limits;
 
 // The kinds of the answers.
-struct AnswerKind {}
+pub struct AnswerKind {}
 
 impl AnswerKind {
-    const STANDING: u16 = 128;
+    pub const STANDING: u16 = 128;
 
-    const CLAIMED: u16 = 129;
+    pub const CLAIMED: u16 = 129;
 
-    const WAITING: u16 = 130;
+    pub const WAITING: u16 = 130;
 
-    const FOUND: u16 = 131;
+    pub const FOUND: u16 = 131;
 
-    const PUT: u16 = 132;
+    pub const PUT: u16 = 132;
 
-    const RETURNED: u16 = 133;
+    pub const RETURNED: u16 = 133;
 
-    const GRANTED: u16 = 134;
+    pub const GRANTED: u16 = 134;
 
-    const STALE: u16 = 135;
+    pub const STALE: u16 = 135;
 
-    const VALUE: u16 = 136;
+    pub const VALUE: u16 = 136;
 
-    const HELD: u16 = 137;
+    pub const HELD: u16 = 137;
 
-    const REFUSED: u16 = 138;
+    pub const REFUSED: u16 = 138;
 
-    const SEEN: u16 = 139;
+    pub const SEEN: u16 = 139;
 }
 
 // The length and the kind of a frame whose fields take so many bytes. Returns the frame's bytes.
@@ -63,7 +57,7 @@ fn put_head(out: &mut [u8], kind: u16, fields: usize) -> usize
     Frame::HEAD + fields
 }
 
-// A frame with one field of 16 bits,
+// A frame with one field of 16 bits, as most have.
 fn write_short(out: &mut [u8], kind: u16, x: u16) -> usize
     requires { ⌜ longestAnswer ≤ length (now out) ⌝ }
     ensures { λ r. ⌜ (r, now (out .exit)) ≡ written (now (out .entry)) (frameOf kind (bytes16 x)) ⌝ }
@@ -73,144 +67,94 @@ fn write_short(out: &mut [u8], kind: u16, x: u16) -> usize
     count
 }
 
-// two of them,
-fn write_two_short(out: &mut [u8], kind: u16, x: u16, y: u16) -> usize
-    requires { ⌜ longestAnswer ≤ length (now out) ⌝ }
-    ensures { λ r. ⌜ (r, now (out .exit)) ≡ written (now (out .entry)) (frameOf kind (bytes16 x ++ bytes16 y)) ⌝ }
-{
-    let count = put_head(out, kind, 2 * Frame::FIELD);
-    put16(out, Frame::HEAD, x);
-    put16(out, Frame::HEAD + Frame::FIELD, y);
-    count
-}
-
-// one of 32 bits,
-fn write_long(out: &mut [u8], kind: u16, x: u32) -> usize
-    requires { ⌜ longestAnswer ≤ length (now out) ⌝ }
-    ensures { λ r. ⌜ (r, now (out .exit)) ≡ written (now (out .entry)) (frameOf kind (bytes32 x)) ⌝ }
-{
-    let count = put_head(out, kind, Frame::LONG);
-    put32(out, Frame::HEAD, x);
-    count
-}
-
-// one of each,
-fn write_short_and_long(out: &mut [u8], kind: u16, x: u16, y: u32) -> usize
-    requires { ⌜ longestAnswer ≤ length (now out) ⌝ }
-    ensures { λ r. ⌜ (r, now (out .exit)) ≡ written (now (out .entry)) (frameOf kind (bytes16 x ++ bytes32 y)) ⌝ }
-{
-    let count = put_head(out, kind, Frame::FIELD_AND_LONG);
-    put16(out, Frame::HEAD, x);
-    put32(out, Frame::HEAD + Frame::FIELD, y);
-    count
-}
-
-// one of 64 bits,
-fn write_longest(out: &mut [u8], kind: u16, x: u64) -> usize
-    requires { ⌜ longestAnswer ≤ length (now out) ⌝ }
-    ensures { λ r. ⌜ (r, now (out .exit)) ≡ written (now (out .entry)) (frameOf kind (bytes64 x)) ⌝ }
-{
-    let count = put_head(out, kind, Frame::VALUE);
-    put64(out, Frame::HEAD, x);
-    count
-}
-
-// and none.
-fn write_bare(out: &mut [u8], kind: u16) -> usize
-    requires { ⌜ longestAnswer ≤ length (now out) ⌝ }
-    ensures { λ r. ⌜ (r, now (out .exit)) ≡ written (now (out .entry)) (frameOf kind []) ⌝ }
-{
-    put_head(out, kind, 0)
-}
-
 // How many values a view shows: n, and there is room for six.
 fn values_shown(n: u16) -> usize
-    ensures { λ r. ⌜ r ≡ min n mostTargets ⌝ }
+    ensures { λ r. ⌜ r ≡ min n mostNamed ⌝ }
 {
-    if (n as usize) < Limits::TARGETS {
+    if (n as usize) < Limits::NAMED {
         n as usize
     } else {
-        Limits::TARGETS
+        Limits::NAMED
     }
 }
 
-// A frame with one field of 64 bits for each value that a view shows.
-fn write_values(out: &mut [u8], seen: Values) -> usize
+// A frame with one field of 64 bits for each value that a view shows: of its first n, six at most.
+pub fn write_seen(out: &mut [u8], values: [u64; Limits::NAMED], n: u16) -> usize
     requires { ⌜ longestAnswer ≤ length (now out) ⌝ }
-    ensures { λ r. ⌜ (r, now (out .exit)) ≡ written (now (out .entry)) (answerFrame (Answer.Step (Seen seen))) ⌝ }
+    ensures { λ r. ⌜ ((r, now (out .exit)) ≡ written (now (out .entry)) (answerFrame (Answer.Step (Seen (valuesFrom n values))))) × (r ≤ longestAnswer) ⌝ }
 {
-    let n = values_shown(seen.n);
-    let values = [
-        seen.first,
-        seen.second,
-        seen.third,
-        seen.fourth,
-        seen.fifth,
-        seen.sixth,
-    ];
-    let count = put_head(out, AnswerKind::SEEN, Frame::VALUE * n);
+    let shown = values_shown(n);
+    let count = put_head(out, AnswerKind::SEEN, Frame::VALUE * shown);
     let mut k: usize = 0;
-    while k < n {
+    while k < shown {
         put64(out, Frame::HEAD + Frame::VALUE * k, values[k]);
         k += 1;
     }
     count
 }
 
-// The kind of the answer to an edit's step that goes on.
-fn went_kind(phase: Phase) -> u16
-    ensures { λ r. ⌜ ((many : ℕ) → frameOf r (bytes16 many) ≡ answerFrame (Answer.Step (wentAnswer phase many))) ⌝ }
+// The answers to a step, one writer each: so many words claimed,
+pub fn write_claimed(out: &mut [u8], many: u16) -> usize
+    requires { ⌜ longestAnswer ≤ length (now out) ⌝ }
+    ensures { λ r. ⌜ ((r, now (out .exit)) ≡ written (now (out .entry)) (answerFrame (Answer.Step (Claimed many)))) × (r ≤ longestAnswer) ⌝ }
 {
-    match phase {
-        Phase::NoTicket => AnswerKind::RETURNED,
-        Phase::Claiming => AnswerKind::CLAIMED,
-        Phase::Putting => AnswerKind::PUT,
-        Phase::GivingBack => AnswerKind::RETURNED,
-        Phase::Viewing => AnswerKind::RETURNED,
-        Phase::Viewed => AnswerKind::RETURNED,
-    }
+    write_short(out, AnswerKind::CLAIMED, many)
 }
 
-// The answer to an edit's step that goes on: what most frames get.
-pub fn write_went(out: &mut [u8], phase: Phase, many: u16) -> usize
+// waiting for the team that holds a word,
+pub fn write_waiting(out: &mut [u8], word: u16, team: u16) -> usize
     requires { ⌜ longestAnswer ≤ length (now out) ⌝ }
-    ensures { λ r. ⌜ ((r, now (out .exit)) ≡ written (now (out .entry)) (answerFrame (Answer.Step (wentAnswer phase many)))) × (r ≤ longestAnswer) ⌝ }
+    ensures { λ r. ⌜ ((r, now (out .exit)) ≡ written (now (out .entry)) (answerFrame (Answer.Step (Waiting word team)))) × (r ≤ longestAnswer) ⌝ }
 {
-    let kind = went_kind(phase);
-    write_short(out, kind, many)
+    let count = put_head(out, AnswerKind::WAITING, 2 * Frame::FIELD);
+    put16(out, Frame::HEAD, word);
+    put16(out, Frame::HEAD + Frame::FIELD, team);
+    count
 }
 
-// The answer to any step of an edit.
-pub fn write_edit_step(out: &mut [u8], answer: EditAnswer) -> usize
+// found stale, and giving back,
+pub fn write_found(out: &mut [u8], word: u16) -> usize
     requires { ⌜ longestAnswer ≤ length (now out) ⌝ }
-    ensures { λ r. ⌜ ((r, now (out .exit)) ≡ written (now (out .entry)) (answerFrame (Answer.Step (asStep answer)))) × (r ≤ longestAnswer) ⌝ }
+    ensures { λ r. ⌜ ((r, now (out .exit)) ≡ written (now (out .entry)) (answerFrame (Answer.Step (Found word)))) × (r ≤ longestAnswer) ⌝ }
 {
-    match answer {
-        EditAnswer::Claimed(many) => write_short(out, AnswerKind::CLAIMED, many),
-        EditAnswer::Waiting(word, team) => write_two_short(out, AnswerKind::WAITING, word, team),
-        EditAnswer::Found(word) => write_short(out, AnswerKind::FOUND, word),
-        EditAnswer::Put(many) => write_short(out, AnswerKind::PUT, many),
-        EditAnswer::Returned(many) => write_short(out, AnswerKind::RETURNED, many),
-        EditAnswer::Granted(tries) => write_long(out, AnswerKind::GRANTED, tries),
-        EditAnswer::Stale(word, tries) => write_short_and_long(out, AnswerKind::STALE, word, tries),
-    }
+    write_short(out, AnswerKind::FOUND, word)
 }
 
-// A view's last answer has values; every other one is an edit's too.
-fn write_step(out: &mut [u8], answer: StepAnswer) -> usize
+// so many targets put,
+pub fn write_put(out: &mut [u8], many: u16) -> usize
     requires { ⌜ longestAnswer ≤ length (now out) ⌝ }
-    ensures { λ r. ⌜ (r, now (out .exit)) ≡ written (now (out .entry)) (answerFrame (Answer.Step answer)) ⌝ }
+    ensures { λ r. ⌜ ((r, now (out .exit)) ≡ written (now (out .entry)) (answerFrame (Answer.Step (Put many)))) × (r ≤ longestAnswer) ⌝ }
 {
-    match answer {
-        StepAnswer::Claimed(many) => write_edit_step(out, EditAnswer::Claimed(many)),
-        StepAnswer::Waiting(word, team) => write_edit_step(out, EditAnswer::Waiting(word, team)),
-        StepAnswer::Found(word) => write_edit_step(out, EditAnswer::Found(word)),
-        StepAnswer::Put(many) => write_edit_step(out, EditAnswer::Put(many)),
-        StepAnswer::Returned(many) => write_edit_step(out, EditAnswer::Returned(many)),
-        StepAnswer::Granted(tries) => write_edit_step(out, EditAnswer::Granted(tries)),
-        StepAnswer::Stale(word, tries) => write_edit_step(out, EditAnswer::Stale(word, tries)),
-        StepAnswer::Seen(values) => write_values(out, values),
-    }
+    write_short(out, AnswerKind::PUT, many)
+}
+
+// so many words given back,
+pub fn write_returned(out: &mut [u8], many: u16) -> usize
+    requires { ⌜ longestAnswer ≤ length (now out) ⌝ }
+    ensures { λ r. ⌜ ((r, now (out .exit)) ≡ written (now (out .entry)) (answerFrame (Answer.Step (Returned many)))) × (r ≤ longestAnswer) ⌝ }
+{
+    write_short(out, AnswerKind::RETURNED, many)
+}
+
+// granted,
+pub fn write_granted(out: &mut [u8], tries: u32) -> usize
+    requires { ⌜ longestAnswer ≤ length (now out) ⌝ }
+    ensures { λ r. ⌜ ((r, now (out .exit)) ≡ written (now (out .entry)) (answerFrame (Answer.Step (Granted tries)))) × (r ≤ longestAnswer) ⌝ }
+{
+    let count = put_head(out, AnswerKind::GRANTED, Frame::LONG);
+    put32(out, Frame::HEAD, tries);
+    count
+}
+
+// and stale, by the word that differed.
+pub fn write_stale(out: &mut [u8], word: u16, tries: u32) -> usize
+    requires { ⌜ longestAnswer ≤ length (now out) ⌝ }
+    ensures { λ r. ⌜ ((r, now (out .exit)) ≡ written (now (out .entry)) (answerFrame (Answer.Step (Stale word tries)))) × (r ≤ longestAnswer) ⌝ }
+{
+    let count = put_head(out, AnswerKind::STALE, Frame::FIELD_AND_LONG);
+    put16(out, Frame::HEAD, word);
+    put32(out, Frame::HEAD + Frame::FIELD, tries);
+    count
 }
 
 pub fn write_look(out: &mut [u8], answer: LookAnswer) -> usize
@@ -218,8 +162,12 @@ pub fn write_look(out: &mut [u8], answer: LookAnswer) -> usize
     ensures { λ r. ⌜ ((r, now (out .exit)) ≡ written (now (out .entry)) (answerFrame (Answer.Look answer))) × (r ≤ longestAnswer) ⌝ }
 {
     match answer {
-        LookAnswer::Held => write_bare(out, AnswerKind::HELD),
-        LookAnswer::Value(value) => write_longest(out, AnswerKind::VALUE, value),
+        LookAnswer::Held => put_head(out, AnswerKind::HELD, 0),
+        LookAnswer::Value(value) => {
+            let count = put_head(out, AnswerKind::VALUE, Frame::VALUE);
+            put64(out, Frame::HEAD, value);
+            count
+        }
     }
 }
 
@@ -235,17 +183,4 @@ pub fn write_refused(out: &mut [u8], number: u16) -> usize
     ensures { λ r. ⌜ ((r, now (out .exit)) ≡ written (now (out .entry)) (answerFrame (Answer.Refused number))) × (r ≤ longestAnswer) ⌝ }
 {
     write_short(out, AnswerKind::REFUSED, number)
-}
-
-// The bytes written; later bytes of the output keep their contents.
-pub fn write_answer(out: &mut [u8], answer: Answer) -> usize
-    requires { ⌜ longestAnswer ≤ length (now out) ⌝ }
-    ensures { λ r. ⌜ ((r, now (out .exit)) ≡ written (now (out .entry)) (answerFrame answer)) × (r ≤ longestAnswer) ⌝ }
-{
-    match answer {
-        Answer::Standing(n) => write_standing(out, n),
-        Answer::Step(step) => write_step(out, step),
-        Answer::Look(look) => write_look(out, look),
-        Answer::Refused(number) => write_refused(out, number),
-    }
 }

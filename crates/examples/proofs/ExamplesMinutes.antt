@@ -9,8 +9,7 @@ use Rattle.words.specs.Words.{Words, wordsInBook}
 use Rattle.legs.specs.declared.Measure.{Measure}
 use Rattle.legs.specs.Positions.{fixedRanks}
 use Rattle.legs.specs.Minutes.{Minutes}
-use Rattle.tickets.specs.declared.Tickets.{Tickets}
-use Rattle.tickets.specs.Tickets.{freshTickets, withTicket}
+use Rattle.tickets.specs.Tickets.{Tickets, freshTickets, withTicket}
 use Rattle.edits.specs.Opened.{openedTicket}
 use Rattle.frames.specs.Request.{Open, Step}
 use Rattle.frames.specs.Numbers.{Bytes}

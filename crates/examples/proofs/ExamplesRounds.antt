@@ -7,8 +7,7 @@ use native.Mathlib.Omega.{arith}
 use lib.Dec.{eqb}
 use lib.ListN.{take, replicate}
 use Rattle.words.specs.Words.{teamCount}
-use Rattle.tickets.specs.declared.Tickets.{Tickets}
-use Rattle.tickets.specs.Tickets.{ticketOf, hasTicket}
+use Rattle.tickets.specs.Tickets.{Tickets, ticketOf, hasTicket}
 use Rattle.frames.specs.Request.{Open, View}
 use Rattle.frames.specs.Numbers.{areBytes}
 use Rattle.frames.specs.Answers.{longestAnswer}

@@ -8,10 +8,9 @@ use mathlib.Core.Option.{none, some}
 use lib.ListN.{getD, take, replicate}
 use Rattle.words.specs.Words.{Words, wordsInBook, wordsInStore}
 use Rattle.legs.specs.Positions.{fixedRanks}
-use Rattle.tickets.specs.declared.Tickets.{Tickets}
+use Rattle.tickets.specs.Tickets.{Tickets, freshTickets, withTicket, standsBelow}
 use Rattle.tickets.specs.declared.StepAnswer.{StepAnswer}
 use Rattle.tickets.specs.declared.StepAnswer.the-variants.{Claimed, Put, Granted}
-use Rattle.tickets.specs.Tickets.{freshTickets, withTicket, standsBelow}
 use Rattle.edits.specs.declared.Edit.{Edit}
 use Rattle.edits.specs.declared.Edit.the-variants.{Add}
 use Rattle.edits.specs.Opened.{openedTicket}

@@ -13,8 +13,7 @@ use Rattle.tickets.specs.declared.Phase.the-variants.{Claiming, Putting}
 use Rattle.tickets.specs.declared.StepAnswer.{StepAnswer}
 use Rattle.tickets.specs.declared.StepAnswer.the-variants.{Claimed, Found, Put, Granted, Stale, Seen}
 use Rattle.tickets.specs.declared.LookAnswer.the-variants.{Value}
-use Rattle.tickets.specs.declared.Tickets.{Tickets}
-use Rattle.tickets.specs.Tickets.{freshTickets, withTicket}
+use Rattle.tickets.specs.Tickets.{Tickets, freshTickets, withTicket}
 use Rattle.tickets.specs.Steps.{advanced}
 use Rattle.edits.specs.declared.Edit.{Edit}
 use Rattle.edits.specs.declared.Edit.the-variants.{Add}

@@ -10,8 +10,7 @@ use Rattle.legs.specs.Positions.{Ranks}
 use Rattle.legs.proofs.Examples.{turned}
 use Rattle.tickets.specs.declared.Phase.the-variants.{Viewing}
 use Rattle.tickets.specs.declared.StepAnswer.the-variants.{Claimed, Stale}
-use Rattle.tickets.specs.declared.Tickets.{Tickets}
-use Rattle.tickets.specs.Tickets.{freshTickets, withTicket}
+use Rattle.tickets.specs.Tickets.{Tickets, freshTickets, withTicket}
 use Rattle.tickets.specs.Steps.{advanced}
 use Rattle.edits.specs.Opened.{openedTicket}
 use Rattle.edits.specs.Views.{openedView}

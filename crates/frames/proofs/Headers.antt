@@ -10,7 +10,7 @@ use borrow.Author.Tests.{eq-eqb, ne-eqb, eqb-true, lt-ltb, le-ltb, leb-true, not
 use lib.Dec.{eqb, leb}
 use lib.ListN.{length, length-drop}
 use Rattle.words.specs.Tests.{allHold, someHolds, within}
-use Rattle.words.specs.Words.{mostTargets}
+use Rattle.words.specs.Words.{mostNamed}
 use Rattle.words.proofs.Tests.{split, join, next-test, failed-test, last-test}
 use Rattle.frames.specs.declared.Header.the-variants as Header
 use Rattle.frames.specs.Request.{Open, Step, Look, View}
@@ -67,15 +67,15 @@ fits-other kind length other = rw (ne-eqb kind viewKind other)
 -- a view's where it is neither too short nor too long, and even.
 pub view-short : (length : ℕ) → length < lengthOfView 1 → lengthFits viewKind length ≡ false
 unfolding lengthFits
-view-short length l = failed-test _ _ (within-below (lengthOfView 1) (lengthOfView mostTargets) length l)
+view-short length l = failed-test _ _ (within-below (lengthOfView 1) (lengthOfView mostNamed) length l)
 
-pub view-long : (length : ℕ) → lengthOfView mostTargets < length → lengthFits viewKind length ≡ false
+pub view-long : (length : ℕ) → lengthOfView mostNamed < length → lengthFits viewKind length ≡ false
 unfolding lengthFits
-view-long length l = failed-test _ _ (within-above (lengthOfView 1) (lengthOfView mostTargets) length l)
+view-long length l = failed-test _ _ (within-above (lengthOfView 1) (lengthOfView mostNamed) length l)
 
-pub view-even : (length : ℕ) → lengthOfView 1 ≤ length → length ≤ lengthOfView mostTargets → lengthFits viewKind length ≡ eqb (length % 2) 0
+pub view-even : (length : ℕ) → lengthOfView 1 ≤ length → length ≤ lengthOfView mostNamed → lengthFits viewKind length ≡ eqb (length % 2) 0
 unfolding lengthFits
-view-even length l m = next-test _ (eqb (length % 2) 0 ∷ []) (within-in (lengthOfView 1) (lengthOfView mostTargets) length l m) ∙ last-test (eqb (length % 2) 0)
+view-even length l m = next-test _ (eqb (length % 2) 0 ∷ []) (within-in (lengthOfView 1) (lengthOfView mostNamed) length l m) ∙ last-test (eqb (length % 2) 0)
 
 -- The one length of a kind fits it: it is no view's, which has none.
 pub due-fits : (kind length : ℕ) → length ≡ lengthOfKind kind → 0 < length → lengthFits kind length ≡ true
@@ -108,11 +108,11 @@ unfolding lengthFits
 fields-fit kind length-field part e fits = by (eqb kind viewKind) fits
   where
     by : (view : Bool)
-        → cond view (allHold (within (lengthOfView 1) (lengthOfView mostTargets) length-field ∷ eqb (length-field % 2) 0 ∷ [])) (eqb length-field (lengthOfKind kind)) ≡ true
+        → cond view (allHold (within (lengthOfView 1) (lengthOfView mostNamed) length-field ∷ eqb (length-field % 2) 0 ∷ [])) (eqb length-field (lengthOfKind kind)) ≡ true
         → cond view (ViewFields part) (length part ≡ lengthOfKind kind - 2)
     by true fits =
-        let (inside, (even, u)) = split (within (lengthOfView 1) (lengthOfView mostTargets) length-field ∷ eqb (length-field % 2) 0 ∷ []) fits in
-        let (least, (most, v)) = split (leb (lengthOfView 1) length-field ∷ leb length-field (lengthOfView mostTargets) ∷ []) inside in
+        let (inside, (even, u)) = split (within (lengthOfView 1) (lengthOfView mostNamed) length-field ∷ eqb (length-field % 2) 0 ∷ []) fits in
+        let (least, (most, v)) = split (leb (lengthOfView 1) length-field ∷ leb length-field (lengthOfView mostNamed) ∷ []) inside in
         let least : 8 ≤ length-field = leb-true _ _ least in
         let most : length-field ≤ 18 = leb-true _ _ most in
         let even : length-field % 2 ≡ 0 = eqb-true _ _ even in

@@ -10,7 +10,7 @@ use lib.Dec.{eqb, leb, ltb}
 use lib.ListN.{length, getD, take, drop}
 use lib.Seq.{length-take-le}
 use Rattle.words.specs.Tests.{allHold, within}
-use Rattle.words.specs.Words.{mostTargets}
+use Rattle.words.specs.Words.{mostNamed}
 use Rattle.words.proofs.Tests.{AllTrue, split, is-false}
 use Rattle.tickets.specs.declared.Values.{Values}
 use Rattle.tickets.specs.Steps.{valuesFrom, valuesOf}
@@ -79,10 +79,10 @@ values-back : (seen : Values) → valuesFit seen ≡ true → valuesIn (fields64
 values-back seen h =
     let n = seen .n in
     let values = valuesOf seen in
-    let (inside, (fit, (behind, u))) = split (within 1 mostTargets n ∷ allHold (map fits64 values) ∷ allZero (drop n values) ∷ []) h in
-    let (least, (most, v)) = split (leb 1 n ∷ leb n mostTargets ∷ []) inside in
+    let (inside, (fit, (behind, u))) = split (within 1 mostNamed n ∷ allHold (map fits64 values) ∷ allZero (drop n values) ∷ []) h in
+    let (least, (most, v)) = split (leb 1 n ∷ leb n mostNamed ∷ []) inside in
     let zeros = split (map (eqb 0) (drop n values)) behind in
-    shown-back n values (leb-true n mostTargets most) (split (map fits64 values) fit)
+    shown-back n values (leb-true n mostNamed most) (split (map fits64 values) fit)
     ∙ (λ i. record {
       n = n;
       first = zeros-behind n 0 values zeros i;

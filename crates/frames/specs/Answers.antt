@@ -1,10 +1,10 @@
 -- "Answers": the number and the fields of each, and where they are written.
-use Prim.Native.Nat.{ℕ, _+_, _*_, _≤_}
+use Prim.Native.Nat.{ℕ, _+_, _*_, _-_, _≤_}
 use mathlib.Core.Path.{_≡_}
 use mathlib.Core.List.{List, [], _++_}
 use mathlib.Core.Bool.{true}
 use lib.ListN.{length, take, drop}
-use Rattle.words.specs.Words.{mostTargets}
+use Rattle.words.specs.Words.{mostNamed}
 use Rattle.tickets.specs.declared.Values.{Values}
 use Rattle.tickets.specs.Steps.{valuesOf}
 use Rattle.tickets.specs.declared.StepAnswer.{StepAnswer}
@@ -71,11 +71,24 @@ answerFrame answer = frameOf (answerKind answer) (answerFields answer)
 
 -- The longest is a view's, of six values: 52 bytes.
 abbrev pub longestAnswer : ℕ
-longestAnswer = headBytes + 8 * mostTargets
+longestAnswer = headBytes + 8 * mostNamed
 
 -- "The call returns the bytes written; later bytes of the output keep their contents."
 abbrev pub written : Bytes → Bytes → ℕ × Bytes
 written out bytes = (length bytes, bytes ++ drop (length bytes) out)
+
+-- What is left of an output from a place on, and the output with that part written, as the language takes a part of a slice up to its end.
+abbrev pub roomIn : Bytes → ℕ → Bytes
+roomIn out at = take (length out - at) (drop at out)
+
+abbrev pub withRoom : Bytes → ℕ → Bytes → Bytes
+withRoom out at room = take at out ++ (room ++ drop (length out - at) (drop at out))
+
+-- An answer put at a place of an output: the place after it, and the output with it.
+abbrev pub PutAt : Bytes → ℕ → Bytes → ℕ → Bytes → Type 0
+PutAt out at answer place output =
+    let sent = written (roomIn out at) answer in
+    ((place ≡ at + sent .0) × (place ≤ length out)) × ((output ≡ withRoom out at (sent .1)) × (length output ≡ length out))
 
 -- A sound frame of an answer: 4 to 52 bytes long, its length field the count of bytes after it.
 pub record FrameSound (frame : Bytes) : Type 0 where

@@ -7,7 +7,7 @@ use lib.ListN.{length}
 use lib.Dec.{eqb, ltb}
 use lib.IntN.{ℤ}
 use Rattle.words.specs.Tests.{allHold, someHolds}
-use Rattle.words.specs.Words.{wordsInBook, mostTargets}
+use Rattle.words.specs.Words.{wordsInBook, mostNamed}
 use Rattle.legs.specs.declared.Measure.{Measure}
 use Rattle.legs.specs.Legs.{clinoInRange, measureInRange}
 use Rattle.legs.specs.Minutes.{Minutes, hundredthsOf, signedBy, compassAngleInRange, clinoAngleInRange, anglesInRange, rounded}
@@ -74,7 +74,7 @@ headerOf frame =
 pub record ViewFields (part : Bytes) : Type 0 where
   pub words : ℕ
   pub least : 1 ≤ words
-  pub most : words ≤ mostTargets
+  pub most : words ≤ mostNamed
   pub long : length part ≡ 4 + 2 * words
 
 abbrev pub FieldsOf : ℕ → Bytes → Type 0

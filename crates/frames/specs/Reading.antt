@@ -7,7 +7,7 @@ use mathlib.Core.Option.{Option, none, some}
 use lib.Dec.{eqb}
 use lib.ListN.{length, drop}
 use Rattle.words.specs.Tests.{allHold, within}
-use Rattle.words.specs.Words.{mostTargets}
+use Rattle.words.specs.Words.{mostNamed}
 use Rattle.tickets.specs.declared.Values.{Values}
 use Rattle.tickets.specs.Steps.{valuesOf, valuesFrom}
 use Rattle.tickets.specs.declared.StepAnswer.{StepAnswer}
@@ -64,7 +64,7 @@ allZero numbers = allHold (map (eqb 0) numbers)
 abbrev pub valuesFit : Values → Bool
 valuesFit seen =
     allHold (
-    within 1 mostTargets (seen .n)
+    within 1 mostNamed (seen .n)
     ∷ allHold (map fits64 (valuesOf seen))
     ∷ allZero (drop (seen .n) (valuesOf seen))
     ∷ []

@@ -6,7 +6,7 @@ use mathlib.Core.Bool.{Bool, true, not, cond}
 use lib.ListN.{length, drop}
 use lib.Dec.{eqb}
 use Rattle.words.specs.Tests.{allHold, someHolds, within}
-use Rattle.words.specs.Words.{mostTargets}
+use Rattle.words.specs.Words.{mostNamed}
 use Rattle.legs.specs.declared.Stations.{Stations}
 use Rattle.legs.specs.declared.Measure.{Measure}
 use Rattle.legs.specs.Minutes.{Minutes, anglesInRange, rounded}
@@ -100,7 +100,7 @@ lengthOfView words = 6 + 2 * words
 unfoldable pub lengthFits : ℕ → ℕ → Bool
 lengthFits kind field =
     cond (eqb kind viewKind)
-    (allHold (within (lengthOfView 1) (lengthOfView mostTargets) field ∷ eqb (field % 2) 0 ∷ []))
+    (allHold (within (lengthOfView 1) (lengthOfView mostNamed) field ∷ eqb (field % 2) 0 ∷ []))
     (eqb field (lengthOfKind kind))
 
 -- from to.

@@ -7,7 +7,7 @@ use lib.Dec.{ltb}
 use lib.ListN.{length}
 use lib.IntN.{ℤ, pos, negsuc}
 use Rattle.words.specs.Tests.{allHold, within}
-use Rattle.words.specs.Words.{mostTargets}
+use Rattle.words.specs.Words.{mostNamed}
 use Rattle.legs.specs.declared.Measure.{Measure}
 use Rattle.edits.specs.declared.Edit.{Edit}
 use Rattle.edits.specs.declared.Edit.the-variants.{Add, Correct, Strike, Move}
@@ -101,7 +101,7 @@ abbrev pub sized : Request → Bool
 sized (Open team edit) = true
 sized (Step team) = true
 sized (Look word) = true
-sized (View team n words) = within 1 mostTargets (length words)
+sized (View team n words) = within 1 mostNamed (length words)
 
 -- Statement: refusals 3, 4 and 5 never apply to such a frame.
 abbrev pub RequestFramesWhole : Type 0

@@ -61,7 +61,7 @@ fn fits_view(length: u16) -> bool
     if count < Frame::BEFORE_WORDS + Frame::FIELD {
         return false;
     }
-    if Frame::BEFORE_WORDS + Frame::FIELD * Limits::TARGETS < count {
+    if Frame::BEFORE_WORDS + Frame::FIELD * Limits::NAMED < count {
         return false;
     }
     count % Frame::FIELD == 0

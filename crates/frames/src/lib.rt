@@ -107,7 +107,7 @@ impl Frame {
 
 impl Answer {
     // The bytes of the longest answer's frame, which an output must have room for.
-    pub const LONGEST: usize = Frame::HEAD + Frame::VALUE * Limits::TARGETS;
+    pub const LONGEST: usize = Frame::HEAD + Frame::VALUE * Limits::NAMED;
 }
 
 // What the length field of each kind says: the bytes of the kind, which counts as a field, of the other fields, and of measures.

@@ -1,307 +1,242 @@
-// Calls that a stream can't reach: other books, short outputs, lent tickets, and readings. What it writes is
-// the text of the file stdout beside, which the second model makes.
-ghost use Prim.Native.Nat.{_≤_};
+// Calls that a stream can't reach, from standard input: other books, short outputs, lent tickets, and readings. What each gives
+// comes on standard output. The form of a call is that of `desk`; what comes behind the last whole one is passed over.
+//
+// - Title (0): the bytes carried, as they stand.
+// - Fresh (1): zero words, and no ticket. Writes nothing, as the next three.
+// - Word (2): the word of that number becomes the value carried, 64 bits.
+// - Slot (3): the slot of the team of that number becomes the one carried: tries, 32 bits, then n, claimed, done and kind (0 an
+//   edit's, 1 that of an edit found stale, 2 a view's), 16 bits each.
+// - Target (4): the number at that place of the table's targets becomes the one carried, 64 bits.
+// - Frame (5): the bytes carried are the frame; beside the book so many bytes of output are lent, each with that number in it.
+// - Read (6): a reading of the place and the measure carried, 64 bits each.
+//
+// A frame's lines: what is returned and the output; each word that has changed; each ticket that stands, with its phase, n,
+// claimed, done, tries, and its targets.
+ghost use Prim.Native.Nat.{_+_, _*_, _≤_, _<_};
 ghost use lib.ListN.{length};
-use desk::Cases;
+ghost use Rattle.words.specs.Words.{teamCount};
+ghost use Rattle.tickets.specs.Table.{targetRoom};
+use desk::Place;
 use desk::Room;
+use desk::at_most;
+use desk::read64;
 use desk::say;
+use frames::numbers::Bits;
+use frames::numbers::read16;
+use frames::numbers::read32;
 use legs::Leg;
 use legs::Reading;
+use libc::STDIN_FILENO;
+use tickets::Kind;
 use tickets::Phase;
 use tickets::Ticket;
 use tickets::Tickets;
 use words::Limits;
 
-fn on_book(words: &mut [u64], many: usize, out: usize, frame: &[u8])
-    requires { ⌜ (many ≤ length (now words)) × (out ≤ 64) ⌝ }
-{
-    let book = &mut words[0..many];
-    desk::call_any(book, Tickets::fresh(), out, 170, frame);
+struct Tag {}
+
+impl Tag {
+    const TITLE: u16 = 0;
+
+    const FRESH: u16 = 1;
+
+    const WORD: u16 = 2;
+
+    const SLOT: u16 = 3;
+
+    const TARGET: u16 = 4;
+
+    const FRAME: u16 = 5;
+
+    const READ: u16 = 6;
 }
 
-fn tell_book(many: u64) {
-    say::text(b"book");
-    say::number(many);
+// The bytes that are carried of a number, of a slot, and of a reading's two numbers.
+struct Carried {}
+
+impl Carried {
+    const NUMBER: usize = 8;
+
+    const SLOT: usize = 12;
+
+    const READING: usize = 16;
+}
+
+// The words lent, and the table of tickets.
+struct State {
+    words: [u64; Room::WORDS],
+    tickets: Tickets,
+}
+
+fn fresh() -> State {
+    State {
+        words: [0; Room::WORDS],
+        tickets: Tickets::fresh(),
+    }
+}
+
+fn number_in(carried: &[u8]) -> u64 {
+    if carried.len() < Carried::NUMBER {
+        return 0;
+    }
+    read64(carried, 0)
+}
+
+fn with_word(mut state: State, word: usize, value: u64) -> State {
+    if Room::WORDS <= word {
+        return state;
+    }
+    state.words[word] = value;
+    state
+}
+
+fn with_target(mut state: State, place: usize, value: u64) -> State {
+    if Tickets::NUMBERS <= place {
+        return state;
+    }
+    let mut tickets = state.tickets;
+    tickets.targets[place] = value;
+    state.tickets = tickets;
+    state
+}
+
+fn kind_of(number: u16) -> Kind {
+    match number {
+        0 => Kind::Edit,
+        1 => Kind::Stale,
+        _ => Kind::View,
+    }
+}
+
+fn slot_in(carried: &[u8]) -> Ticket {
+    if carried.len() < Carried::SLOT {
+        return Ticket::none();
+    }
+    Ticket {
+        tries: read32(carried, 0),
+        n: read16(carried, 4),
+        claimed: read16(carried, 6),
+        done: read16(carried, 8),
+        kind: kind_of(read16(carried, 10)),
+    }
+}
+
+fn with_slot(mut state: State, team: usize, slot: Ticket) -> State {
+    if Limits::TEAMS <= team {
+        return state;
+    }
+    let mut tickets = state.tickets;
+    tickets.slots[team] = slot;
+    state.tickets = tickets;
+    state
+}
+
+fn tell_word(word: usize, before: u64, after: u64) {
+    if before != after {
+        let numbers = [word as u64, after];
+        say::text(b"word");
+        say::numbers(&numbers);
+        say::end();
+    }
+}
+
+fn tell_words(before: &[u64; Room::WORDS], after: &[u64; Room::WORDS]) {
+    let mut word: usize = 0;
+    while word < Room::WORDS {
+        tell_word(word, before[word], after[word]);
+        word += 1;
+    }
+}
+
+fn tell_phase(phase: Phase) {
+    match phase {
+        Phase::NoTicket => say::text(b" none"),
+        Phase::Claiming => say::text(b" claiming"),
+        Phase::Putting => say::text(b" putting"),
+        Phase::GivingBack => say::text(b" giving-back"),
+        Phase::Viewing => say::text(b" viewing"),
+        Phase::Viewed => say::text(b" viewed"),
+    }
+}
+
+// The first n targets, or those that there is room for.
+fn tell_targets(targets: &[u64], team: usize, n: u16)
+    requires { ⌜ (team < teamCount) × (3 * (targetRoom * teamCount) ≤ length (now targets)) ⌝ }
+{
+    let many = at_most(n as usize, Tickets::ROOM);
+    let first = Tickets::place(team, 0);
+    let end = first + Tickets::TARGET * many;
+    say::text(b" :");
+    say::numbers(&targets[first..end]);
     say::end();
 }
 
-fn other_books() {
-    let mut words = [0u64; Room::WORDS];
-    let look = [4, 0, 6, 0, 0, 0];
-    let step = [4, 0, 5, 0, 0, 0];
-    let empty: [u8; 0] = [];
-    say::text(b"# Refusal 1: other book lengths, before everything else.\nfresh\n");
-    tell_book(4095);
-    on_book(&mut words, 4095, 52, &look);
-    on_book(&mut words, 4095, 0, &empty);
-    tell_book(4097);
-    on_book(&mut words, 4097, 52, &look);
-    tell_book(0);
-    on_book(&mut words, 0, 64, &step);
-}
-
-// The same look into outputs that are too short, and just long enough.
-fn each_output(book: &mut [u64; Limits::WORDS], tickets: Tickets, frame: &[u8]) {
-    desk::call(book, tickets, 0, 170, frame);
-    desk::call(book, tickets, 11, 170, frame);
-    desk::call(book, tickets, 12, 170, frame);
-    desk::call(book, tickets, 51, 170, frame);
-    desk::call(book, tickets, 52, 170, frame);
-    desk::call(book, tickets, 53, 170, frame);
-}
-
-fn outputs(book: &mut [u64; Limits::WORDS], tickets: Tickets) {
-    let look = [4, 0, 6, 0, 0, 0];
-    let last = [4, 0, 6, 0, 255, 15];
-    let beyond = [4, 0, 6, 0, 0, 16];
-    let step = [4, 0, 5, 0, 0, 0];
-    let empty: [u8; 0] = [];
-    each_output(book, tickets, &look);
-    desk::call(book, tickets, 51, 170, &empty);
-    say::text(b"# Later bytes of the output keep their contents.\n");
-    desk::call(book, tickets, 60, 85, &last);
-    desk::call(book, tickets, 60, 85, &beyond);
-    desk::call(book, tickets, 56, 85, &step);
-}
-
-fn other_counts(book: &mut [u64; Limits::WORDS], tickets: Tickets) {
-    let empty: [u8; 0] = [];
-    let one = [4];
-    let three = [2, 0, 6];
-    let one_more = [5, 0, 6, 0, 0, 0];
-    let one_less = [3, 0, 6, 0, 0, 0];
-    let many_more = [62, 0, 6, 0, 0, 0];
-    let seven = [4, 0, 6, 0, 0, 0, 0];
-    say::text(b"# Refusal 3: no frame of a stream has another count of bytes than it says.\n");
-    desk::ask(book, tickets, &empty);
-    desk::ask(book, tickets, &one);
-    desk::ask(book, tickets, &three);
-    desk::ask(book, tickets, &one_more);
-    desk::ask(book, tickets, &one_less);
-    desk::ask(book, tickets, &many_more);
-    desk::ask(book, tickets, &seven);
-}
-
-fn look_at(book: &mut [u64; Limits::WORDS], tickets: Tickets, value: u64) {
-    desk::set_word(book, 7, value);
-    desk::look(book, tickets, 7);
-}
-
-fn held_words(book: &mut [u64; Limits::WORDS], tickets: Tickets) {
-    say::text(b"# Words at 2^63 and above are Held, whoever has them.\n");
-    look_at(book, tickets, Cases::HELD - 1);
-    look_at(book, tickets, Cases::HELD);
-    look_at(book, tickets, Cases::NOBODYS);
-    look_at(book, tickets, Cases::LARGEST);
-    say::text(b"# A claim waits for a mark that is nobody's, too.\n");
-    let ticket = desk::one_target(Phase::Claiming, 1, 0, 0, 7, 0, 1);
-    let lent = desk::lend(tickets, 5, ticket);
-    let waiting = desk::step(book, lent, 5);
-    desk::set_word(book, 7, Cases::NOBODYS);
-    desk::step(book, waiting, 5);
-}
-
-// A ticket of two targets, words 0 and 1, with no tries.
-fn two_targets(phase: Phase, claimed: u16, done: u16) -> Ticket {
-    let ticket = desk::ticket_of(phase, 2, claimed, done, 0);
-    desk::with_target(ticket, 1, 1, 0, 0)
-}
-
-fn seven_targets() -> Ticket {
-    let mut ticket = desk::ticket_of(Phase::Claiming, 7, 0, 0, 0);
-    ticket = desk::with_target(ticket, 1, 1, 0, 0);
-    ticket = desk::with_target(ticket, 2, 2, 0, 0);
-    ticket = desk::with_target(ticket, 3, 3, 0, 0);
-    ticket = desk::with_target(ticket, 4, 4, 0, 0);
-    desk::with_target(ticket, 5, 5, 0, 0)
-}
-
-// The first is asked in every way: by a step, by an edit with from equal to to and no distance, and by others.
-fn no_targets(book: &mut [u64; Limits::WORDS]) {
-    let edit = [
-        24,
-        0,
-        1,
-        0,
-        3,
-        0,
-        0,
-        0,
-        1,
-        0,
-        0,
-        0,
-        0,
-        0,
-        1,
-        0,
-        1,
-        0,
-        0,
-        0,
-        0,
-        0,
-        40,
-        35,
-        106,
-        255,
+fn tell_ticket(targets: &[u64; Tickets::NUMBERS], team: usize, ticket: Ticket)
+    requires { ⌜ team < teamCount ⌝ }
+{
+    if !ticket.stands() {
+        return;
+    }
+    let counts = [
+        ticket.n as u64,
+        ticket.claimed as u64,
+        ticket.done as u64,
+        ticket.tries as u64,
     ];
-    let ticket = desk::one_target(Phase::Claiming, 0, 0, 0, 50, 0, 7);
-    let tickets = desk::lend(Tickets::fresh(), 3, ticket);
-    desk::step(book, tickets, 3);
-    desk::ask(book, tickets, &edit);
-    desk::step(book, tickets, 16);
-    desk::step(book, tickets, 4);
-    desk::look(book, tickets, 3);
+    say::text(b"ticket");
+    say::number(team as u64);
+    tell_phase(ticket.phase());
+    say::numbers(&counts);
+    tell_targets(targets, team, ticket.n);
 }
 
-fn badly_made(book: &mut [u64; Limits::WORDS]) {
-    say::text(b"# Tickets that aren't well made: refusal 7, before 8, 10 and 11, after 6.\n");
-    desk::fresh(book);
-    no_targets(book);
-    desk::damaged(book, seven_targets());
-    desk::damaged(book, desk::one_target(Phase::Claiming, 1, 0, 0, 4096, 0, 0));
-    desk::damaged(
-        book,
-        desk::one_target(Phase::Claiming, 1, 0, 0, 0, Cases::HELD, 0),
-    );
-    desk::damaged(
-        book,
-        desk::one_target(Phase::Claiming, 1, 0, 0, 0, 0, Cases::HELD),
-    );
-    desk::damaged(book, desk::one_target(Phase::Claiming, 1, 1, 0, 0, 0, 0));
-    desk::damaged(book, two_targets(Phase::Putting, 2, 2));
-    desk::damaged(book, two_targets(Phase::GivingBack, 2, 1));
-    desk::damaged(book, two_targets(Phase::GivingBack, 1, 1));
+fn tell_tickets(tickets: Tickets) {
+    let mut team: usize = 0;
+    while team < Limits::TEAMS {
+        let ticket = tickets.slots[team];
+        tell_ticket(&tickets.targets, team, ticket);
+        team += 1;
+    }
 }
 
-fn odd_but_well_made(book: &mut [u64; Limits::WORDS]) {
-    say::text(b"# Well made though odd: a target after the n-th may be anything.\n");
-    let first = desk::one_target(Phase::Claiming, 1, 0, 9, 0, 0, 5);
-    let ticket = desk::with_target(first, 1, 5000, Cases::HELD, Cases::HELD);
-    let lent = desk::lend(Tickets::fresh(), 3, ticket);
-    let claimed = desk::step(book, lent, 3);
-    desk::step(book, claimed, 3);
+fn tell_reply(returned: usize, out: &[u8]) {
+    say::text(b"returns");
+    say::number(returned as u64);
+    say::text(b" :");
+    say::bytes(out);
+    say::end();
 }
 
-fn two_claims(book: &mut [u64; Limits::WORDS], tickets: Tickets, word: u16, other: u16) -> Tickets {
-    let first = desk::one_target(Phase::Claiming, 2, 0, 0, word, 0, 1);
-    let ticket = desk::with_target(first, 1, other, 0, 2);
-    let lent = desk::lend(tickets, 2, ticket);
-    let claimed = desk::step(book, lent, 2);
-    desk::step(book, claimed, 2)
+// A call on so many of the words, with an output of so many of the bytes.
+fn call_on(words: &mut [u64], tickets: Tickets, space: &mut [u8], given: &[u8]) -> Tickets
+    requires { ⌜ 10 ≤ length (now given) ⌝ }
+{
+    let many = at_most(read16(given, Place::BOOK) as usize, words.len());
+    let count = at_most(read16(given, Place::BESIDE) as usize, space.len());
+    let book = &mut words[0..many];
+    let out = &mut space[0..count];
+    let ranks = legs::fixed_ranks();
+    let reply = book::call(book, tickets, &ranks, &given[Place::HEAD..], out);
+    let after = reply.tickets;
+    tell_reply(reply.written, out);
+    after
 }
 
-fn twice_or_out_of_order(book: &mut [u64; Limits::WORDS]) {
-    say::text(b"# Words named twice or out of order: the second claim waits for the first.\n");
-    let fresh = desk::fresh(book);
-    let tickets = two_claims(book, fresh, 9, 9);
-    two_claims(book, tickets, 30, 3);
-}
-
-fn putting_without_marks(book: &mut [u64; Limits::WORDS]) -> Tickets {
-    say::text(b"# Putting leaves a word that doesn't hold the mark; either way it counts.\n");
-    let fresh = desk::fresh(book);
-    desk::set_word(book, 10, Cases::HELD + 2);
-    desk::set_word(book, 11, Cases::HELD + 3);
-    let mut ticket = desk::ticket_of(Phase::Putting, 3, 0, 0, 6);
-    ticket = desk::with_target(ticket, 0, 12, 0, 5);
-    ticket = desk::with_target(ticket, 1, 11, 0, 5);
-    ticket = desk::with_target(ticket, 2, 10, 0, 5);
-    let lent = desk::lend(fresh, 2, ticket);
-    desk::three_steps(book, lent, 2)
-}
-
-fn giving_back_without_marks(book: &mut [u64; Limits::WORDS], tickets: Tickets) {
-    say::text(b"# Giving back the same, with the quoted value; Stale names the word at claimed.\n");
-    desk::set_word(book, 10, Cases::HELD + 2);
-    let mut ticket = desk::ticket_of(Phase::GivingBack, 4, 3, 0, 6);
-    ticket = desk::with_target(ticket, 0, 10, 4, 5);
-    ticket = desk::with_target(ticket, 1, 11, 4, 5);
-    ticket = desk::with_target(ticket, 2, 12, 4, 5);
-    ticket = desk::with_target(ticket, 3, 33, 4, 5);
-    let lent = desk::lend(tickets, 2, ticket);
-    desk::three_steps(book, lent, 2);
-}
-
-fn claimed_one(quoted: u64) -> Ticket {
-    let mut ticket = desk::ticket_of(Phase::Claiming, 2, 1, 1, 3);
-    ticket = desk::with_target(ticket, 0, 0, 0, 1);
-    desk::with_target(ticket, 1, 1, quoted, 1)
-}
-
-fn changes_of_phase(book: &mut [u64; Limits::WORDS]) {
-    say::text(b"# At each change of phase nothing is done yet.\n");
-    let fresh = desk::fresh(book);
-    let lent = desk::lend(fresh, 1, claimed_one(0));
-    let putting = desk::step(book, lent, 1);
-    let again = desk::lend(putting, 1, claimed_one(8));
-    desk::set_word(book, 1, 0);
-    desk::step(book, again, 1);
-}
-
-fn tries_stop(book: &mut [u64; Limits::WORDS]) {
-    say::text(b"# Tries stop at 4,294,967,295.\n");
-    let fresh = desk::fresh(book);
-    desk::set_word(book, 0, Cases::NOBODYS);
-    let ticket = desk::ticket_of(Phase::Claiming, 1, 0, 0, Ticket::MOST_TRIES - 1);
-    let lent = desk::lend(fresh, 0, desk::with_target(ticket, 0, 0, 0, 1));
-    let first = desk::step(book, lent, 0);
-    let second = desk::step(book, first, 0);
-    desk::set_word(book, 0, 0);
-    let third = desk::step(book, second, 0);
-    desk::step(book, third, 0);
-}
-
-// Add to passage 25, correct and strike in passage 0, move from passage 6 to 25.
-fn opened(book: &mut [u64; Limits::WORDS]) {
-    let add =
-        b"\x18\x00\x01\x00\x00\x00\x19\x00\x07\x00\x00\x00\x00\x00\x01\x00\x02\x00\x88\x13\x00\x00\x28\x23\x6a\xff";
-    let correct =
-        b"\x1c\x00\x02\x00\x01\x00\x00\x00\x07\x00\x01\x00\x02\x00\x88\x13\x00\x00\x28\x23\x6a\xff\x01\x00\x00\x00\x00\x00\x00\x00";
-    let strike =
-        b"\x1a\x00\x03\x00\x02\x00\x00\x00\x09\x00\x07\x00\x08\x00\x03\x00\x01\x00\x02\x00\x88\x13\x00\x00\x28\x23\x6a\xff";
-    let change =
-        b"\x18\x00\x04\x00\x03\x00\x06\x00\x19\x00\x00\x00\x07\x00\x08\x00\x03\x00\x09\x00\x02\x00\x01\x00\x02\x00";
-    say::text(b"# An edit stores its targets by rising position.\n");
-    let fresh = desk::fresh(book);
-    let first = desk::ask(book, fresh, add);
-    let second = desk::ask(book, first, correct);
-    let third = desk::ask(book, second, strike);
-    desk::ask(book, third, change);
-}
-
-// Leg 7 alone in passage 0, plumb, with the compass 18,000 that older books may have.
-fn lend_plumb_leg(book: &mut [u64; Limits::WORDS]) -> Tickets {
-    let fresh = desk::fresh(book);
-    desk::set_word(book, 0, 7);
-    desk::set_word(book, 1, 1);
-    desk::set_word(book, 83, 8388673);
-    desk::set_word(book, 84, 154621181957000);
-    fresh
-}
-
-// Corrected and struck in vain, then moved to passage 25.
-fn plumb_leg(book: &mut [u64; Limits::WORDS]) {
-    let correct =
-        b"\x1c\x00\x02\x00\x01\x00\x00\x00\x07\x00\x01\x00\x02\x00\x88\x13\x00\x00\x50\x46\x28\x23\x01\x00\x00\x00\x50\x46\x28\x23";
-    let strike =
-        b"\x1a\x00\x03\x00\x01\x00\x00\x00\x00\x00\x07\x00\x00\x00\x01\x00\x01\x00\x02\x00\x88\x13\x00\x00\x50\x46\x28\x23";
-    let change =
-        b"\x18\x00\x04\x00\x01\x00\x00\x00\x19\x00\x00\x00\x07\x00\x00\x00\x01\x00\x00\x00\x00\x00\x01\x00\x02\x00";
-    say::text(b"# A plumb leg written with another compass: nothing quotes it, but it moves.\n");
-    let lent = lend_plumb_leg(book);
-    let correcting = desk::ask(book, lent, correct);
-    let corrected = desk::three_steps(book, correcting, 1);
-    let striking = desk::ask(book, corrected, strike);
-    let claimed = desk::three_steps(book, striking, 1);
-    let found = desk::three_steps(book, claimed, 1);
-    let struck = desk::three_steps(book, found, 1);
-    let moving = desk::ask(book, struck, change);
-    let half = desk::three_steps(book, moving, 1);
-    let all = desk::three_steps(book, half, 1);
-    let put = desk::three_steps(book, all, 1);
-    desk::three_steps(book, put, 1);
+fn called(state: State, given: &[u8]) -> State
+    requires { ⌜ 10 ≤ length (now given) ⌝ }
+{
+    let before = state.words;
+    let mut words = state.words;
+    let tickets = state.tickets;
+    let fill = read16(given, Place::NUMBER) % Bits::BYTE;
+    let mut space = [fill as u8; Room::OUTPUT];
+    let after = call_on(&mut words, tickets, &mut space, given);
+    tell_words(&before, &words);
+    tell_tickets(after);
+    State {
+        words: words,
+        tickets: after,
+    }
 }
 
 fn tell_clino(clino: i16) {
@@ -314,71 +249,92 @@ fn tell_clino(clino: i16) {
 }
 
 fn tell_leg(leg: Leg) {
-    say::text(b"= leg");
-    say::number(leg.passage as u64);
-    say::number(leg.stations.from as u64);
-    say::number(leg.stations.to as u64);
-    say::number(leg.measure.distance as u64);
-    say::number(leg.measure.compass as u64);
+    let numbers = [
+        leg.passage as u64,
+        leg.stations.from as u64,
+        leg.stations.to as u64,
+        leg.measure.distance as u64,
+        leg.measure.compass as u64,
+    ];
+    say::text(b"leg");
+    say::numbers(&numbers);
     tell_clino(leg.measure.clino);
     say::end();
 }
 
-fn read(place: u64, measure: u64) {
-    say::text(b"read");
-    say::number(place);
-    say::number(measure);
-    say::end();
-    let reading = legs::read_leg(place, measure);
+fn read(carried: &[u8]) {
+    if carried.len() < Carried::READING {
+        return;
+    }
+    let reading = legs::read_leg(read64(carried, 0), read64(carried, Carried::NUMBER));
     match reading {
-        Reading::NoLeg => say::text(b"= no leg\n"),
+        Reading::NoLeg => say::text(b"no leg\n"),
         Reading::Is(leg) => tell_leg(leg),
     }
 }
 
-// The leg of the whole case, and words beside it: no passage, passage 32, no distance, a station too far, from
-// equal to to, and the largest.
-fn readings() {
-    say::text(b"# Reading.\n");
-    read(8388673, 76022100792200);
-    read(0, 0);
-    read(8388672, 76022100792200);
-    read(8388705, 76022100792200);
-    read(8388673, 76022100787200);
-    read(274877906944, 76022100792200);
-    read(4194369, 76022100792200);
-    read(Cases::HELD - 1, Cases::LARGEST);
+// What is written and leaves all as it is.
+fn tell_other(tag: u16, carried: &[u8]) {
+    if tag == Tag::TITLE {
+        say::text(carried);
+    }
+    if tag == Tag::READ {
+        read(carried);
+    }
 }
 
-// Plumb up and down with compass 0 and 18,000, and 18,000 where the clino is one hundredth less steep.
-fn plumb_readings() {
-    say::text(b"# Reading plumb legs.\n");
-    read(8388673, 154618822661000);
-    read(8388673, 154621181957000);
-    read(8388673, 5000);
-    read(8388673, 2359301000);
-    read(8388673, 154612592022408);
-    read(8388673, 10949235592);
+// One call; a tag that isn't known is passed over.
+fn dispatch(state: State, given: &[u8]) -> State
+    requires { ⌜ 10 ≤ length (now given) ⌝ }
+{
+    let tag = read16(given, Place::TAG);
+    let number = read16(given, Place::NUMBER) as usize;
+    let carried = &given[Place::HEAD..];
+    if tag == Tag::FRESH {
+        return fresh();
+    }
+    if tag == Tag::WORD {
+        return with_word(state, number, number_in(carried));
+    }
+    if tag == Tag::SLOT {
+        return with_slot(state, number, slot_in(carried));
+    }
+    if tag == Tag::TARGET {
+        return with_target(state, number, number_in(carried));
+    }
+    if tag == Tag::FRAME {
+        return called(state, given);
+    }
+    tell_other(tag, carried);
+    state
+}
+
+fn dispatch_all(input: &[u8]) {
+    let mut state = fresh();
+    let mut at: usize = 0;
+    while at < input.len() {
+        let rest = &input[at..];
+        let count = desk::first_call(rest);
+        if count < Place::HEAD {
+            return;
+        }
+        let end = at + count;
+        state = dispatch(state, &input[at..end]);
+        at = end;
+    }
+}
+
+fn dispatch_input(buffer: &mut [u8]) {
+    let have = io::read_full(STDIN_FILENO, buffer);
+    dispatch_all(&buffer[0..have]);
+}
+
+// Takes the buffer as an array, so that the length of a million zeros is known by their type and is not counted.
+fn dispatch_with(buffer: &mut [u8; Room::INPUT]) {
+    dispatch_input(buffer);
 }
 
 fn main() {
-    say::text(b"# Calls that a stream can't reach. Lines that begin with = are the model's.\n");
-    other_books();
-    say::text(b"# Refusal 2: outputs of 0 to 53 bytes, before everything that the frame can be.\n");
-    let mut book = [0u64; Limits::WORDS];
-    let tickets = desk::fresh(&mut book);
-    outputs(&mut book, tickets);
-    other_counts(&mut book, tickets);
-    held_words(&mut book, tickets);
-    badly_made(&mut book);
-    odd_but_well_made(&mut book);
-    twice_or_out_of_order(&mut book);
-    let later = putting_without_marks(&mut book);
-    giving_back_without_marks(&mut book, later);
-    changes_of_phase(&mut book);
-    tries_stop(&mut book);
-    opened(&mut book);
-    plumb_leg(&mut book);
-    readings();
-    plumb_readings();
+    let mut buffer = [0u8; Room::INPUT];
+    dispatch_with(&mut buffer);
 }

@@ -1,6 +1,5 @@
-// A list of calls from standard input, made one after another: what each returns and writes, on standard output. A call is
-// five numbers of 16 bits, low byte first: its tag, the words of the book lent, the words of the store lent, a number, and how
-// many bytes it carries, which follow. What comes behind the last whole call is passed over.
+// A list of calls from standard input, made one after another: what each returns and writes, on standard output. The form of a
+// call is that of `desk`; beside the book so many words of the store are lent. What comes behind the last whole call is passed over.
 //
 // - Begin (0): a fresh book, no ticket, no shelf filled, the fixed ranks in force; word i of the store becomes the number times
 //   i + 1. Writes nothing.
@@ -18,7 +17,9 @@ ghost use Prim.Native.Nat.{_+_, _≤_, _<_};
 ghost use lib.ListN.{length};
 ghost use Rattle.words.specs.Words.{wordsInStore};
 use calls::Outcome;
+use desk::Place;
 use desk::Room;
+use desk::at_most;
 use desk::say;
 use frames::numbers::Bits;
 use frames::numbers::read16;
@@ -29,8 +30,6 @@ use words::Limits;
 struct Lent {}
 
 impl Lent {
-    const INPUT: usize = 1048576;
-
     // For one word more than a store has.
     const STORE: usize = Limits::SHELVES * Limits::WORDS + 1;
 
@@ -68,23 +67,6 @@ impl Tag {
     const LEND: u16 = 6;
 }
 
-// Where the numbers of a call stand, and the bytes before those that it carries.
-struct Place {}
-
-impl Place {
-    const TAG: usize = 0;
-
-    const BOOK: usize = 2;
-
-    const STORE: usize = 4;
-
-    const NUMBER: usize = 6;
-
-    const CARRIED: usize = 8;
-
-    const HEAD: usize = 10;
-}
-
 // A digest takes 32 bits at a time: the prime is the first above 2^32, so that no change of a single word goes unseen.
 struct Digest {}
 
@@ -109,15 +91,6 @@ fn digest_of(words: &[u64]) -> u64 {
         i += 1;
     }
     digest
-}
-
-fn at_most(wanted: usize, most: usize) -> usize
-    ensures { λ r. ⌜ (r ≤ most) × (r ≤ wanted) ⌝ }
-{
-    if most < wanted {
-        return most;
-    }
-    wanted
 }
 
 // A digest of each so many words as a book has.
@@ -289,7 +262,7 @@ fn fill(
     requires { ⌜ 10 ≤ length (now given) ⌝ }
 {
     let many = at_most(read16(given, Place::BOOK) as usize, words.len());
-    let count = at_most(read16(given, Place::STORE) as usize, space.len());
+    let count = at_most(read16(given, Place::BESIDE) as usize, space.len());
     let shelf = read16(given, Place::NUMBER);
     let store = &mut space[0..count];
     let outcome = shelves::fill(&words[0..many], tickets, store, filled, shelf as usize);
@@ -306,7 +279,7 @@ fn come_back(
     requires { ⌜ 10 ≤ length (now given) ⌝ }
 {
     let many = at_most(read16(given, Place::BOOK) as usize, words.len());
-    let count = at_most(read16(given, Place::STORE) as usize, space.len());
+    let count = at_most(read16(given, Place::BESIDE) as usize, space.len());
     let shelf = read16(given, Place::NUMBER);
     let book = &mut words[0..many];
     let outcome = shelves::come_back(book, tickets, &space[0..count], filled, shelf as usize);
@@ -440,20 +413,6 @@ fn dispatch(
     }
 }
 
-// How many bytes the first call has; 0 where it isn't whole.
-fn first_call(rest: &[u8]) -> usize
-    ensures { λ r. ⌜ r ≤ length (now (rest .entry)) ⌝ }
-{
-    if rest.len() < Place::HEAD {
-        return 0;
-    }
-    let count = Place::HEAD + read16(rest, Place::CARRIED) as usize;
-    if rest.len() < count {
-        return 0;
-    }
-    count
-}
-
 fn dispatch_all(
     words: &mut [u64; Room::WORDS],
     store: &mut [u64; Lent::STORE],
@@ -469,7 +428,7 @@ fn dispatch_all(
     let mut at: usize = 0;
     while at < input.len() {
         let rest = &input[at..];
-        let count = first_call(rest);
+        let count = desk::first_call(rest);
         if count < Place::HEAD {
             return;
         }
@@ -499,7 +458,7 @@ fn dispatch_with(
     filled: &mut [bool; Limits::SHELVES],
     ranks: &mut [u16; Lent::RANKS],
     out: &mut [u8; Room::OUTPUT],
-    buffer: &mut [u8; Lent::INPUT],
+    buffer: &mut [u8; Room::INPUT],
 ) {
     dispatch_input(words, store, filled, ranks, out, buffer);
 }
@@ -510,7 +469,7 @@ fn main() {
     let mut filled = [false; Limits::SHELVES];
     let mut ranks = [0u16; Lent::RANKS];
     let mut out = [0u8; Room::OUTPUT];
-    let mut buffer = [0u8; Lent::INPUT];
+    let mut buffer = [0u8; Room::INPUT];
     dispatch_with(
         &mut words,
         &mut store,

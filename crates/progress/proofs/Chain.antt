@@ -6,8 +6,7 @@ use native.Mathlib.Omega.{arith}
 use native.Mathlib.Decide.{ℕ-discrete}
 use lib.ListN.{length}
 use Rattle.words.specs.Words.{Words}
-use Rattle.tickets.specs.declared.Ticket.{Ticket}
-use Rattle.tickets.specs.Tickets.{targetAt, hasTicket}
+use Rattle.tickets.specs.Tickets.{Ticket, targetAt, hasTicket}
 use Rattle.tickets.specs.Invariant.{FitTicket, Invariant, Holder}
 use Rattle.tickets.proofs.TargetLists.{length-targets, target-listed, claimable-at}
 use Rattle.tickets.proofs.Keeping.{standing-fit, claims-counts}

@@ -9,8 +9,7 @@ use lib.ListN.{length}
 use Rattle.words.specs.Tests.{Every}
 use Rattle.words.specs.Words.{Words, wordsInBook, teamCount}
 use Rattle.legs.specs.Positions.{Ranks, positionBy, Accepted}
-use Rattle.tickets.specs.declared.Ticket.{Ticket}
-use Rattle.tickets.specs.Tickets.{ticketOf, targetsIn, wordsIn, hasTicket}
+use Rattle.tickets.specs.Tickets.{Ticket, ticketOf, targetsIn, wordsIn, hasTicket}
 use Rattle.tickets.specs.Invariant.{Invariant}
 use Rattle.edits.specs.Ordering.{RisesStrictly}
 use Rattle.edits.specs.Views.{viewTargets}

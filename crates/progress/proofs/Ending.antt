@@ -5,16 +5,14 @@ use mathlib.Core.Bool.{Bool, true, false, cond, true≢false, false≢true}
 use mathlib.Core.List.{List, [], _∷_}
 use mathlib.Core.Logic.{_≢_, _⊎_, inl, inr}
 use native.Mathlib.Omega.{arith}
-use native.Mathlib.Decide.{ℕ-discrete, decLt}
-use lib.ListN.{length, length-set, List·getD-eq-default}
+use native.Mathlib.Decide.{ℕ-discrete}
+use lib.ListN.{length, length-set}
 use borrow.Author.Tests.{eq-eqb, ne-eqb}
 use Rattle.words.specs.Tests.{occurs, distinct, Every}
 use Rattle.words.specs.Words.{wordsInBook, teamCount}
 use Rattle.words.proofs.Tests.{is-false}
 use Rattle.legs.specs.Positions.{Accepted}
-use Rattle.tickets.specs.declared.Ticket.{Ticket}
-use Rattle.tickets.specs.declared.Tickets.{Tickets}
-use Rattle.tickets.specs.Tickets.{absentSlot, ticketOf, withTicket, hasTicket}
+use Rattle.tickets.specs.Tickets.{Ticket, ticketOf, withTicket, hasTicket}
 use Rattle.tickets.specs.Steps.{stepOf}
 use Rattle.tickets.specs.Invariant.{withSlot, FitSlot}
 use Rattle.tickets.proofs.Keeping.{standing-fit}

@@ -10,8 +10,7 @@ use lib.ListN.{length, replicate}
 use borrow.Author.Tests.{eq-eqb, ne-eqb}
 use Rattle.words.specs.Tests.{occurs, distinct, Every}
 use Rattle.words.specs.Words.{teamCount}
-use Rattle.tickets.specs.declared.Tickets.{Tickets}
-use Rattle.tickets.specs.Tickets.{ticketOf, hasTicket}
+use Rattle.tickets.specs.Tickets.{Tickets, ticketOf, hasTicket}
 use Rattle.frames.specs.Answers.{longestAnswer}
 use Rattle.calls.specs.Run.{Shared, run}
 use Rattle.calls.specs.Demand1.{TableFits}

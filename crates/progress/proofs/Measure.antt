@@ -12,9 +12,8 @@ use Rattle.words.proofs.AnyValue.{mark-unexpected}
 use Rattle.tickets.specs.declared.Target.{Target}
 use Rattle.tickets.specs.declared.Phase.{Phase}
 use Rattle.tickets.specs.declared.Phase.the-variants.{NoTicket, Claiming, Putting, GivingBack, Viewing, Viewed}
-use Rattle.tickets.specs.declared.Ticket.{Ticket}
+use Rattle.tickets.specs.Tickets.{Ticket, noTicket, target, targetAt, targetsIn, wordsIn, hasTicket, claims}
 use Rattle.tickets.specs.declared.StepAnswer.{StepAnswer}
-use Rattle.tickets.specs.Tickets.{noTicket, target, targetAt, targetsIn, wordsIn, hasTicket, claims}
 use Rattle.tickets.specs.Steps.{swapTriedIn, swapTried, advanced, noting, stepOf}
 use Rattle.tickets.specs.Targets.{targetIn}
 use Rattle.tickets.specs.Invariant.{withSlot, FitTicket, FitSlot, Invariant, Holder, Leaves, StepKept, claimed-one, claimed-last, waiting, found-other, stale-at-once, put-one, put-last, returned-one, returned-last, viewed-one, viewed-last, view-waiting, view-returned-one, view-returned-last}

@@ -6,9 +6,7 @@ use mathlib.Core.Logic.{_≢_}
 use native.Mathlib.Omega.{arith}
 use native.Mathlib.Decide.{ℕ-discrete}
 use Rattle.words.specs.Words.{teamCount}
-use Rattle.tickets.specs.declared.Ticket.{Ticket}
-use Rattle.tickets.specs.declared.Tickets.{Tickets}
-use Rattle.tickets.specs.Tickets.{ticketOf}
+use Rattle.tickets.specs.Tickets.{Ticket, Tickets, ticketOf}
 use Rattle.tickets.specs.Invariant.{withSlot, FitSlot}
 use Rattle.tickets.proofs.Slots.{slot-same, slot-other}
 use Rattle.progress.specs.Rounds.{targetsBelow, NoneStands, NoTicketNoRound}

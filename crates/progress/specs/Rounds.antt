@@ -6,9 +6,7 @@ use mathlib.Core.Bool.{true, false, cond}
 use lib.ListN.{length, replicate}
 use Rattle.words.specs.Tests.{occurs, distinct, Every}
 use Rattle.words.specs.Words.{Words, teamCount, readOf}
-use Rattle.tickets.specs.declared.Ticket.{Ticket}
-use Rattle.tickets.specs.declared.Tickets.{Tickets}
-use Rattle.tickets.specs.Tickets.{targetAt, targetsIn, ticketOf, hasTicket, claims}
+use Rattle.tickets.specs.Tickets.{Ticket, Tickets, targetAt, targetsIn, ticketOf, hasTicket, claims}
 use Rattle.tickets.specs.Invariant.{Invariant}
 use Rattle.edits.specs.Ordering.{RisesStrictly}
 use Rattle.frames.specs.Numbers.{Bytes}

@@ -8,7 +8,7 @@ use lib.ListN.{length}
 use borrow.Author.Tests.{eq-eqb, ne-eqb}
 use Rattle.words.specs.Words.{Words, wordsInBook, passageCount}
 use Rattle.legs.specs.Positions.{Ranks, isPermutation}
-use Rattle.tickets.specs.declared.Tickets.{Tickets}
+use Rattle.tickets.specs.Tickets.{Tickets}
 use Rattle.calls.specs.declared.Outcome.{Outcome}
 use Rattle.calls.specs.Call.{bookLengthWrong, check, firstOf}
 use Rattle.calls.specs.Outcomes.{ticketStands}

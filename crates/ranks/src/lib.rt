@@ -3,12 +3,13 @@ ghost use mathlib.Core.Path.{_≡_};
 ghost use lib.ListN.{length};
 ghost use Rattle.words.specs.Words.{passageCount};
 ghost use Rattle.legs.specs.Positions.{isPermutation};
+ghost use Rattle.tickets.specs.Table.{tableOf};
 ghost use Rattle.calls.specs.Loading.{loadOf};
 ghost use Rattle.ranks.specs.Marking.{MarksOf};
 use calls::Outcome;
 use frames::Refusal;
+use making::any_stands;
 use tickets::Tickets;
-use tickets::any_stands;
 use words::Limits;
 
 // Which of the numbers 0 to 31 are among some ranks. One pass marks them all: a call asks for it with every frame.
@@ -66,7 +67,7 @@ pub fn load(
     ranks: &mut [u16; Limits::PASSAGES as usize],
     loaded: &[u16],
 ) -> Outcome
-    ensures { λ r. ⌜ (r, now (ranks .exit)) ≡ loadOf (now (book .entry)) tickets (now (ranks .entry)) (now (loaded .entry)) ⌝ }
+    ensures { λ r. ⌜ (r, now (ranks .exit)) ≡ loadOf (now (book .entry)) (tableOf tickets) (now (ranks .entry)) (now (loaded .entry)) ⌝ }
 {
     if book.len() != Limits::WORDS {
         let number = Refusal::BOOK as u16;
@@ -76,7 +77,8 @@ pub fn load(
         let number = Refusal::RANKS as u16;
         return Outcome::Refused(number);
     }
-    if any_stands(tickets) {
+    let slots = tickets.slots;
+    if any_stands(slots) {
         return Outcome::Refused(Refusal::TICKET_STANDS);
     }
     take_over(ranks, loaded);

@@ -5,26 +5,21 @@ use mathlib.Core.Path.{_≡_, sym, ap, subst, _∙_}
 use mathlib.Core.Logic.{_⊎_, inl, inr}
 use mathlib.Core.Bool.{Bool, true, false, cond, false≢true}
 use borrow.Author.Tests.{eq-eqb, ne-eqb, lt-ltb, le-ltb}
-use lib.Dec.{eqb}
 use lib.ListN.{length, take, drop, length-drop}
 use lib.Seq.{length-take-le}
 use Rattle.words.specs.Words.{Words, wordsInBook}
 use Rattle.legs.specs.Positions.{Ranks, Accepted}
-use Rattle.tickets.specs.declared.Tickets.{Tickets}
+use Rattle.tickets.specs.Tickets.{Tickets}
 use Rattle.frames.specs.declared.Answer.the-variants.{Refused}
 use Rattle.frames.specs.Numbers.{Bytes}
-use Rattle.frames.specs.Answers.{answerFrame, longestAnswer}
+use Rattle.frames.specs.Answers.{answerFrame, longestAnswer, PutAt}
 use Rattle.frames.specs.Fields.{longestFrame}
-use Rattle.calls.specs.declared.Stop.{Stop}
 use Rattle.calls.specs.declared.Stop.the-variants.{MoreInput, BadLength}
-use Rattle.calls.specs.declared.Streamed.{Streamed}
-use Rattle.calls.specs.Run.{sharing}
-use Rattle.calls.specs.Stream.{streamOf, PutAt, StopRight, StreamRight, Roomy}
+use Rattle.calls.specs.Stream.{Streamed, streamOf, Roomy}
 use Rattle.calls.specs.Pieces.{goesOn}
 use Rattle.calls.proofs.StreamRun.{stream-is-run}
 use Rattle.calls.proofs.StreamPieces.{room-left, room-suffices}
-use Rattle.serve.specs.declared.Served.{Served}
-use Rattle.serve.specs.Serving.{shifted, served, refusedBehind, endOf, endedBy, servedAfter, servedBy}
+use Rattle.serve.specs.Serving.{Served, shifted, served, refusedBehind, endOf, endedBy, servedAfter, servedBy}
 
 -- Refused 3 as it is put.
 pub refused-put : (out : Bytes) (at : ℕ) {place : ℕ} {output : Bytes} → PutAt out at (answerFrame (Refused 3)) place output → (place, output) ≡ refusedBehind out at
@@ -57,18 +52,12 @@ module _ (words : Words) (tickets : Tickets) (ranks : Ranks) (buffer : Bytes) (h
   unfolding servedBy
   serves-read some = ap (λ (test : Bool). cond test ending answering) (sym (ne-eqb got 0 some))
 
--- A stream that does not go on leaves room for Refused 3: two bytes are left over.
+-- A stream leaves room for Refused 3.
 refusal-room : (words : Words) (tickets : Tickets) (ranks : Ranks) (input out : Bytes) → length words ≡ wordsInBook → Accepted ranks → Roomy input out
     → let result = streamOf words tickets ranks input out in
-    goesOn (result .0 .stop) ≡ false → longestAnswer ≤ length (result .2) - result .0 .written
-refusal-room words tickets ranks input out whole accepted roomy ends =
-    let result = streamOf words tickets ranks input out in
-    let right : StreamRight (sharing words tickets ranks) input out result = stream-is-run words tickets ranks input out whole accepted in
-    let bad-left : result .0 .stop ≡ BadLength → longestAnswer ≤ length (result .2) - result .0 .written =
-    λ bad.
-    let left = subst (λ (stop : Stop). StopRight stop (drop (result .0 .consumed) input) (length out - result .0 .written)) bad (right .stop-right) in
-    omega (arith, room-left words tickets ranks input out whole accepted roomy (left .0), right .same-length) in
-    elim (room-suffices words tickets ranks input out whole accepted roomy) [ inl bad ↦ bad-left bad | inr more ↦ absurd (false≢true (sym ends ∙ ap goesOn (more .0))) ]
+    longestAnswer ≤ length (result .2) - result .0 .written
+refusal-room words tickets ranks input out whole accepted roomy =
+    omega (arith, room-left words tickets ranks input out whole accepted roomy, stream-is-run words tickets ranks input out whole accepted .same-length)
 
 -- By what a stream over the first bytes left.
 module _ (words : Words) (tickets : Tickets) (ranks : Ranks) (buffer : Bytes) (have : ℕ) (out : Bytes) (answered : Streamed) (after : Words) (filled : Bytes) (same : (answered, after, filled) ≡ streamOf words tickets ranks (take have buffer) out) where
@@ -108,12 +97,12 @@ module _ (words : Words) (tickets : Tickets) (ranks : Ranks) (buffer : Bytes) (h
     front-roomy : Roomy (take have buffer) out
     front-roomy = omega (arith, roomy, front-long, inside)
 
-    -- There is room for Refused 3 where it stops,
-    pub room-to-refuse : goesOn (answered .stop) ≡ false → (answered .written ≤ length filled) × (longestAnswer ≤ length filled - answered .written)
-    room-to-refuse ends =
+    -- There is room for Refused 3,
+    pub room-to-refuse : (answered .written ≤ length filled) × (longestAnswer ≤ length filled - answered .written)
+    room-to-refuse =
         let enough : longestAnswer ≤ length filled - answered .written =
-        subst (λ (result : Streamed × Words × Bytes). goesOn (result .0 .stop) ≡ false → longestAnswer ≤ length (result .2) - result .0 .written) (sym same)
-        (refusal-room words tickets ranks (take have buffer) out whole accepted front-roomy) ends in
+        subst (λ (result : Streamed × Words × Bytes). longestAnswer ≤ length (result .2) - result .0 .written) (sym same)
+        (refusal-room words tickets ranks (take have buffer) out whole accepted front-roomy) in
         (omega (arith, enough), enough)
 
     pub refused-inside : {place : ℕ} {output : Bytes} → PutAt filled (answered .written) (answerFrame (Refused 3)) place output → place ≤ length out

@@ -6,7 +6,6 @@ use mathlib.Core.Path.{_≡_, refl, sym, ap, subst, _∙_}
 use mathlib.Core.Bool.{Bool, true, false, cond, true≢false}
 use mathlib.Core.List.{List, [], _∷_, _++_, map, append-assoc, append-nil}
 use borrow.Author.Tests.{lt-ltb}
-use lib.Dec.{ltb}
 use lib.ListN.{length, take, drop, length-append, length-drop, length-replicate, take-append-drop}
 use lib.Seq.{take-at, take-add, drop-append-le, length-take-le, length-slice}
 use Rattle.calls.specs.Run.{sharing}
@@ -15,17 +14,15 @@ use Rattle.words.specs.Words.{Words, wordsInBook}
 use Rattle.legs.specs.Positions.{Ranks, Accepted}
 use Rattle.frames.specs.declared.Answer.the-variants.{Refused}
 use Rattle.frames.specs.Numbers.{Bytes}
-use Rattle.frames.specs.Answers.{answerFrame}
+use Rattle.frames.specs.Answers.{answerFrame, roomIn, withRoom}
 use Rattle.frames.specs.Fields.{longestFrame}
-use Rattle.calls.specs.declared.Streamed.{Streamed}
 use Rattle.calls.specs.Survey.{joined, allWritten, atEnd}
-use Rattle.calls.specs.Stream.{streamOf, roomIn, withRoom, runOn, StreamRight, Roomy, bytesOf}
+use Rattle.calls.specs.Stream.{Streamed, streamOf, runOn, StreamRight, Roomy, bytesOf}
 use Rattle.calls.specs.Pieces.{goesOn, Between, turnOf, afterTurn, piecesFrom, RoomEachTurn}
 use Rattle.calls.proofs.StreamRun.{stream-is-run}
 use Rattle.calls.proofs.StreamPieces.{left-length}
 use Rattle.calls.proofs.SurveyPieces.{pieces-are-survey}
-use Rattle.serve.specs.declared.Served.{Served}
-use Rattle.serve.specs.Serving.{shifted, served, refusedBehind, endOf, endedBy, servedAfter, servedBy, wroteBy, Memory, starting, Read, ReadInto, EveryReadIsInto, turnBy, memoryAfter, writtenInTurns, ReadsRight, TurnsAreSurvey, readInto, readsOf, ReadsFit}
+use Rattle.serve.specs.Serving.{Served, shifted, served, refusedBehind, endOf, endedBy, servedAfter, servedBy, wroteBy, Memory, starting, Read, ReadInto, EveryReadIsInto, turnBy, memoryAfter, writtenInTurns, ReadsRight, TurnsAreSurvey, readInto, readsOf, ReadsFit}
 use Rattle.serve.proofs.Serving.{serves-read, serves-no-more, serves-on, few-kept}
 
 -- Bytes put behind the first ones of an output come behind them.

@@ -8,21 +8,32 @@ use lib.Dec.{eqb, ltb}
 use Rattle.words.specs.Tests.{Every}
 use Rattle.words.specs.Words.{Words}
 use Rattle.legs.specs.Positions.{Ranks, Accepted}
-use Rattle.tickets.specs.declared.Tickets.{Tickets}
+use Rattle.tickets.specs.Tickets.{Tickets}
+use Rattle.tickets.specs.Table.{tableOf}
 use Rattle.frames.specs.declared.Answer.the-variants.{Refused}
 use Rattle.frames.specs.Numbers.{Bytes}
-use Rattle.frames.specs.Answers.{answerFrame, written}
+use Rattle.frames.specs.Answers.{answerFrame, written, roomIn, withRoom}
 use Rattle.frames.specs.Fields.{longestFrame}
-use Rattle.calls.specs.declared.Streamed.{Streamed}
 use Rattle.calls.specs.Run.{fresh}
 use Rattle.calls.specs.Survey.{joined, surveyUnder}
-use Rattle.calls.specs.Stream.{streamOf, roomIn, withRoom, Roomy}
+use Rattle.calls.specs.Stream.{Streamed, streamOf, Roomy}
 use Rattle.calls.specs.Pieces.{goesOn}
-use Rattle.serve.specs.declared.Served.{Served}
+use Rattle.serve.specs.declared.Served as Code
 
 -- The bytes from a place up to another moved to the front, over what stood there.
 abbrev pub shifted : Bytes → ℕ → ℕ → Bytes
 shifted buffer from have = take (have - from) (drop from buffer) ++ drop (have - from) buffer
+
+-- What came of one read: the tickets, how many bytes of a frame not yet whole stand at the front, how many bytes to write, and whether to go on.
+pub record Served : Type 0 where
+  pub tickets : Tickets
+  pub have : ℕ
+  pub written : ℕ
+  pub on : Bool
+
+-- What the code's says.
+abbrev pub servedOf : Code.Served → Served
+servedOf result = record { tickets = tableOf (result .tickets); have = result .have; written = result .written; on = result .on }
 
 abbrev pub served : Tickets → ℕ → ℕ → Bool → Served
 served tickets have written on = record { tickets = tickets; have = have; written = written; on = on }

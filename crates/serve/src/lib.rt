@@ -4,15 +4,15 @@ ghost use Prim.Native.Nat.{_+_, _-_, _<_, _≤_};
 ghost use lib.ListN.{length, take};
 ghost use Rattle.words.specs.Words.{wordsInBook};
 ghost use Rattle.legs.specs.Positions.{Accepted};
+ghost use Rattle.tickets.specs.Table.{tableOf};
 ghost use Rattle.frames.specs.declared.Answer.the-variants.{Refused};
-ghost use Rattle.frames.specs.Answers.{answerFrame, longestAnswer};
+ghost use Rattle.frames.specs.Answers.{answerFrame, longestAnswer, PutAt};
 ghost use Rattle.frames.specs.Fields.{longestFrame};
-ghost use Rattle.calls.specs.Stream.{streamOf, PutAt, Roomy};
+ghost use Rattle.calls.specs.Stream.{streamOf, streamedOf, Roomy};
 ghost use Rattle.calls.specs.Pieces.{goesOn};
-ghost use Rattle.serve.specs.Serving.{shifted, endOf, servedAfter, servedBy};
+ghost use Rattle.serve.specs.Serving.{shifted, endOf, servedOf, servedAfter, servedBy};
 use calls::Stop;
 use calls::Streamed;
-use frames::Answer;
 use frames::Refusal;
 use tickets::Tickets;
 
@@ -32,7 +32,7 @@ fn put_torn(out: &mut [u8], at: usize) -> usize
     ensures { λ r. ⌜ PutAt (now (out .entry)) at (answerFrame (Refused 3)) r (now (out .exit)) ⌝ }
 {
     let room = &mut out[at..];
-    let count = encoder::write_answer(room, Answer::Refused(Refusal::TORN));
+    let count = encoder::write_refused(room, Refusal::TORN);
     at + count
 }
 
@@ -71,7 +71,7 @@ fn stream_front(
 ) -> Streamed
     requires { ⌜ have ≤ length (now buffer) ⌝ }
     ensures bounds { λ r. ⌜ (r .consumed ≤ have) × (r .written ≤ length (now (out .entry))) ⌝ }
-    ensures all { λ r. ⌜ (r, now (book .exit), now (out .exit)) ≡ streamOf (now (book .entry)) tickets (now (ranks .entry)) (take have (now (buffer .entry))) (now (out .entry)) ⌝ }
+    ensures all { λ r. ⌜ (streamedOf r, now (book .exit), now (out .exit)) ≡ streamOf (now (book .entry)) (tableOf tickets) (now (ranks .entry)) (take have (now (buffer .entry))) (now (out .entry)) ⌝ }
 {
     book::stream(book, tickets, ranks, &buffer[0..have], out)
 }
@@ -100,7 +100,7 @@ fn serve_front(
 ) -> Served
     requires { ⌜ (have ≤ length (now buffer)) × (length (now book) ≡ wordsInBook) × Accepted (now ranks) × Roomy (now buffer) (now out) ⌝ }
     ensures bounds { λ r. ⌜ (r .have ≤ have) × (r .have < longestFrame) × (r .written ≤ length (now (out .entry))) ⌝ }
-    ensures all { λ r. ⌜ (r, now (book .exit), now (buffer .exit), now (out .exit)) ≡ servedAfter (now (buffer .entry)) have (streamOf (now (book .entry)) tickets (now (ranks .entry)) (take have (now (buffer .entry))) (now (out .entry))) ⌝ }
+    ensures all { λ r. ⌜ (servedOf r, now (book .exit), now (buffer .exit), now (out .exit)) ≡ servedAfter (now (buffer .entry)) have (streamOf (now (book .entry)) (tableOf tickets) (now (ranks .entry)) (take have (now (buffer .entry))) (now (out .entry))) ⌝ }
 {
     let answered = stream_front(book, tickets, ranks, buffer, have, out);
     let next = answered.tickets;
@@ -136,7 +136,7 @@ pub fn after_read(
 ) -> Served
     requires { ⌜ (have + got ≤ length (now buffer)) × (longestFrame ≤ length (now buffer)) × (length (now book) ≡ wordsInBook) × Accepted (now ranks) × Roomy (now buffer) (now out) ⌝ }
     ensures bounds { λ r. ⌜ (r .have < longestFrame) × (r .written ≤ length (now (out .entry))) ⌝ }
-    ensures all { λ r. ⌜ (r, now (book .exit), now (buffer .exit), now (out .exit)) ≡ servedBy (now (book .entry)) tickets (now (ranks .entry)) (now (buffer .entry)) have got (now (out .entry)) ⌝ }
+    ensures all { λ r. ⌜ (servedOf r, now (book .exit), now (buffer .exit), now (out .exit)) ≡ servedBy (now (book .entry)) (tableOf tickets) (now (ranks .entry)) (now (buffer .entry)) have got (now (out .entry)) ⌝ }
 {
     if got == 0 {
         let count = at_end(out, have);

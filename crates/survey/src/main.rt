@@ -7,7 +7,6 @@ ghost use Rattle.legs.specs.Positions.{Accepted};
 ghost use Rattle.frames.specs.Fields.{longestFrame};
 ghost use Rattle.calls.specs.Stream.{Roomy};
 use frames::Answer;
-use frames::Frame;
 use libc::STDIN_FILENO;
 use libc::STDOUT_FILENO;
 use serve::Served;
@@ -19,8 +18,11 @@ struct Buffers {}
 impl Buffers {
     const INPUT: usize = 65536;
 
-    // Room for every answer: a frame has at least 2 bytes, an answer at most 52.
-    const OUTPUT: usize = Answer::LONGEST / Frame::FIELD * Buffers::INPUT;
+    // At most so many bytes of answer for a byte of frame.
+    const RATIO: usize = 9;
+
+    // Room for every answer, and for the longest behind them: a stream stops where there is less.
+    const OUTPUT: usize = Buffers::RATIO * Buffers::INPUT + Answer::LONGEST;
 }
 
 fn write_front(out: &[u8], count: usize)

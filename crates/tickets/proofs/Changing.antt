@@ -6,7 +6,7 @@ use native.Mathlib.Omega.{arith}
 use native.Mathlib.Decide.{ℕ-discrete}
 use lib.ListN.{length}
 use Rattle.words.specs.Words.{Words, markOf, readOf}
-use Rattle.tickets.specs.declared.Ticket.{Ticket}
+use Rattle.tickets.specs.Tickets.{Ticket}
 use Rattle.tickets.specs.Invariant.{withSlot, Holds, Holder, FitSlot, HeldWord, Invariant}
 use Rattle.tickets.proofs.Slots.{slot-same, slot-other, every-slot}
 

@@ -15,7 +15,7 @@ use Rattle.words.proofs.Tests.{split, join}
 use Rattle.tickets.specs.declared.Target.{Target}
 use Rattle.tickets.specs.declared.Phase.{Phase}
 use Rattle.tickets.specs.declared.Phase.the-variants.{NoTicket, Claiming, Putting, GivingBack, Viewing, Viewed}
-use Rattle.tickets.specs.declared.Ticket.{Ticket}
+use Rattle.tickets.specs.Tickets.{Ticket}
 use Rattle.tickets.specs.Tickets.{noTicket, targetAt, hasTicket, isView, claims, countsWellMade, namesWellMade}
 use Rattle.tickets.specs.Steps.{advanced}
 use Rattle.tickets.specs.Targets.{Claimable}

@@ -4,6 +4,9 @@ pub mod Swapping
 pub mod Slots
 pub mod Standing
 pub mod TargetLists
+pub mod Gathering
+pub mod Tables
+pub mod Viewing
 pub mod Names
 pub mod Passing
 pub mod Changing
@@ -15,8 +18,7 @@ pub mod Stepping
 pub mod Looking
 pub mod Seeing
 pub mod WellMade
-pub mod After
+pub mod MadeTables
 pub mod Tries
-pub mod Going
 mod Examples
 pub mod Putting

@@ -13,7 +13,7 @@ use Rattle.words.proofs.Tests.{split, join, next-test, failed-test, last-test}
 use Rattle.tickets.specs.declared.Target.{Target}
 use Rattle.tickets.specs.declared.Phase.{Phase}
 use Rattle.tickets.specs.declared.Phase.the-variants.{NoTicket, Claiming, Putting, GivingBack, Viewing, Viewed}
-use Rattle.tickets.specs.declared.Ticket.{Ticket}
+use Rattle.tickets.specs.Tickets.{Ticket}
 use Rattle.tickets.specs.Tickets.{targetAt, targetsFrom, targetsIn, targetWellMade, allWellMade, countsWellMade, viewWellMade, wellMade}
 use Rattle.tickets.proofs.TargetLists.{next-target, no-target-left}
 

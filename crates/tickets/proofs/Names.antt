@@ -8,7 +8,7 @@ use lib.ListN.{length, getD, set, take, drop}
 use Rattle.words.specs.Tests.{distinct, allOccur}
 use Rattle.words.proofs.Tests.{next-test, failed-test, last-test}
 use Rattle.words.proofs.Numbers.{next-number, no-number-left}
-use Rattle.tickets.specs.declared.Ticket.{Ticket}
+use Rattle.tickets.specs.Tickets.{Ticket}
 use Rattle.tickets.specs.Tickets.{targetAt, targetsFrom, wordsIn, namedIn, isView, namesWellMade, viewWellMade}
 use Rattle.tickets.specs.Steps.{noting}
 

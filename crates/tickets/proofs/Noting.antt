@@ -6,7 +6,7 @@ use mathlib.Core.Logic.{_≢_}
 use native.Mathlib.Omega.{arith}
 use lib.ListN.{length, length-set}
 use lib.Seq.{getD-set-same, getD-set-other}
-use Rattle.tickets.specs.declared.Ticket.{Ticket}
+use Rattle.tickets.specs.Tickets.{Ticket}
 use Rattle.tickets.specs.Tickets.{target, targetAt, targetsIn, isView, claims, namesWellMade}
 use Rattle.tickets.specs.Steps.{noting}
 use Rattle.tickets.specs.Targets.{Claimable}

@@ -7,9 +7,9 @@ use native.Mathlib.Omega.{arith}
 use native.Mathlib.Nat.{le-of-suc-le-suc, not-suc-le-zero}
 use borrow.Author.Tests.{eq-eqb, ne-eqb}
 use lib.ListN.{length, getD, length-map, List·getD-eq-default}
-use Rattle.words.specs.Tests.{occurs, allOccur}
+use Rattle.words.specs.Tests.{occurs, allOccur, distinct}
 use Rattle.tickets.specs.declared.Target.{Target}
-use Rattle.tickets.specs.declared.Ticket.{Ticket}
+use Rattle.tickets.specs.Tickets.{Ticket}
 use Rattle.tickets.specs.Tickets.{target, targetAt, targetsFrom, targetsIn, namedIn}
 use Rattle.tickets.specs.Steps.{valueNoted, valuesNamed, valueNamed}
 use Rattle.tickets.proofs.TargetLists.{next-target, no-target-left, length-targets, target-listed}
@@ -64,6 +64,32 @@ named-next ticket words n k is-one inside is =
 pub named-none : (ticket : Ticket) (words : List ℕ) (n k : ℕ) → n ≤ k → allOccur (namesFrom k (n - k) ticket) words ≡ true
 unfolding allOccur
 named-none ticket words n k none = ap (λ (l : List Target). allOccur (map (λ target. target .new) l) words) (no-target-left ticket n k none)
+
+-- Whether no word is named twice.
+pub distinct-next : (ticket : Ticket) (n k : ℕ) (again : Bool) → k < n → again ≡ occurs (targetAt ticket k .new) (namesFrom (k + 1) (n - (k + 1)) ticket)
+    → distinct (namesFrom k (n - k) ticket) ≡ cond again false (distinct (namesFrom (k + 1) (n - (k + 1)) ticket))
+unfolding distinct
+distinct-next ticket n k again inside is =
+    ap (λ (l : List Target). distinct (map (λ target. target .new) l)) (next-target ticket n k inside)
+    ∙ ap (λ b. cond b false (distinct (namesFrom (k + 1) (n - (k + 1)) ticket))) (sym is)
+
+pub distinct-none : (ticket : Ticket) (n k : ℕ) → n ≤ k → distinct (namesFrom k (n - k) ticket) ≡ true
+unfolding distinct
+distinct-none ticket n k none = ap (λ (l : List Target). distinct (map (λ target. target .new) l)) (no-target-left ticket n k none)
+
+-- Whether a word is named from target k on.
+pub named-here : (ticket : Ticket) (word n k : ℕ) → k < n → targetAt ticket k .new ≡ word → occurs word (namesFrom k (n - k) ticket) ≡ true
+named-here ticket word n k inside here =
+    ap (λ (l : List Target). occurs word (map (λ target. target .new) l)) (next-target ticket n k inside)
+    ∙ ap (λ b. cond b true (occurs word (namesFrom (k + 1) (n - (k + 1)) ticket))) (eq-eqb _ _ (sym here))
+
+pub named-later : (ticket : Ticket) (word n k : ℕ) → k < n → (targetAt ticket k .new ≡ word → ⊥) → occurs word (namesFrom k (n - k) ticket) ≡ occurs word (namesFrom (k + 1) (n - (k + 1)) ticket)
+named-later ticket word n k inside other =
+    ap (λ (l : List Target). occurs word (map (λ target. target .new) l)) (next-target ticket n k inside)
+    ∙ ap (λ b. cond b true (occurs word (namesFrom (k + 1) (n - (k + 1)) ticket))) (ne-eqb _ _ (λ same. other (sym same)))
+
+pub not-named : (ticket : Ticket) (word n k : ℕ) → n ≤ k → occurs word (namesFrom k (n - k) ticket) ≡ false
+not-named ticket word n k none = ap (λ (l : List Target). occurs word (map (λ target. target .new) l)) (no-target-left ticket n k none)
 
 -- The value noted for the k-th word named.
 map-at : {A : Type 0} (f : A → ℕ) (absent : A) (l : List A) (k : ℕ) → k < length l → getD (map f l) k 0 ≡ f (getD l k absent)

@@ -7,9 +7,9 @@ use lib.Dec.{eqb}
 use Rattle.words.specs.Words.{Words, isHeld, readOf, swapOf}
 use Rattle.tickets.specs.declared.Phase.{Phase}
 use Rattle.tickets.specs.declared.Phase.the-variants.{Claiming, GivingBack, Viewing}
-use Rattle.tickets.specs.declared.Ticket.{Ticket}
+use Rattle.tickets.specs.Tickets.{Ticket}
 use Rattle.tickets.specs.declared.SwapTried.{SwapTried}
-use Rattle.tickets.specs.declared.Stepped.{Stepped}
+use Rattle.tickets.specs.Steps.{Stepped}
 use Rattle.tickets.specs.declared.StepAnswer.the-variants.{Found, Stale}
 use Rattle.tickets.specs.declared.LookAnswer.{LookAnswer}
 use Rattle.tickets.specs.declared.LookAnswer.the-variants.{Held, Value}

@@ -6,9 +6,9 @@ use native.Mathlib.Decide.{ℕ-discrete}
 use lib.ListN.{length}
 use lib.Seq.{getD-set-same, getD-set-other}
 use borrow.Author.Tests.{eq-eqb, ne-eqb}
-use Rattle.tickets.specs.declared.Ticket.{Ticket}
-use Rattle.tickets.specs.declared.Tickets.{Tickets}
-use Rattle.tickets.specs.Tickets.{absentSlot, ticketOf, withTicket}
+use Rattle.tickets.specs.Tickets.{Ticket}
+use Rattle.tickets.specs.Tickets.{Tickets}
+use Rattle.tickets.specs.Tickets.{noTicket, ticketOf, withTicket}
 use Rattle.tickets.specs.Invariant.{withSlot}
 
 pub slot-same : (tickets : ℕ → Ticket) (team : ℕ) (ticket : Ticket) → withSlot tickets team ticket team ≡ ticket
@@ -37,5 +37,5 @@ pub table-slots : (table : Tickets) (team : ℕ) (ticket : Ticket) → team < le
 table-slots table team ticket inside = fun-ext (λ other. each other (ℕ-discrete other team))
   where
     each : (other : ℕ) → Dec (other ≡ team) → ticketOf (withTicket table team ticket) other ≡ withSlot (ticketOf table) team ticket other
-    each other (yes same) = rw (eq-eqb other team same, same) (getD-set-same (table .slots) team ticket absentSlot inside)
-    each other (no differs) = rw (ne-eqb other team differs) (getD-set-other (table .slots) team other ticket absentSlot differs)
+    each other (yes same) = rw (eq-eqb other team same, same) (getD-set-same (table .slots) team ticket noTicket inside)
+    each other (no differs) = rw (ne-eqb other team differs) (getD-set-other (table .slots) team other ticket noTicket differs)

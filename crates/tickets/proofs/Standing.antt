@@ -3,7 +3,7 @@ use Prim.Native.Nat.{ℕ, zero, suc, _-_, _≤_, _<_}
 use mathlib.Core.Path.{_≡_, refl, sym, ap, _∙_}
 use mathlib.Core.Bool.{Bool, true, false, cond}
 use native.Mathlib.Omega.{arith}
-use Rattle.tickets.specs.declared.Tickets.{Tickets}
+use Rattle.tickets.specs.Tickets.{Tickets}
 use Rattle.tickets.specs.Tickets.{ticketOf, hasTicket, standsBelow}
 
 -- Whether a ticket stands below team n: the last one's does, or one below it.

@@ -11,8 +11,8 @@ use Rattle.words.specs.Words.{Words, Swap, markOf, holderOf, readOf, swapOf}
 use Rattle.words.proofs.AnyValue.{value-expected, mark-unexpected}
 use Rattle.tickets.specs.declared.Phase.{Phase}
 use Rattle.tickets.specs.declared.Phase.the-variants.{NoTicket, Claiming, Putting, GivingBack, Viewing, Viewed}
-use Rattle.tickets.specs.declared.Ticket.{Ticket}
-use Rattle.tickets.specs.declared.Tickets.{Tickets}
+use Rattle.tickets.specs.Tickets.{Ticket}
+use Rattle.tickets.specs.Tickets.{Tickets}
 use Rattle.tickets.specs.declared.StepAnswer.{StepAnswer}
 use Rattle.tickets.specs.declared.StepAnswer.the-variants.{Waiting, Stale}
 use Rattle.tickets.specs.Tickets.{noTicket, ticketOf, withTicket, targetAt, targetsIn, hasTicket, isView, claims}

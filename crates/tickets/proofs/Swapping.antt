@@ -10,9 +10,9 @@ use Rattle.words.specs.Words.{Words, isHeld, markOf, readOf, swapOf}
 use Rattle.words.proofs.AnyValue.{value-expected, mark-unexpected}
 use Rattle.tickets.specs.declared.Phase.{Phase}
 use Rattle.tickets.specs.declared.Phase.the-variants.{NoTicket, Claiming, Putting, GivingBack, Viewing, Viewed}
-use Rattle.tickets.specs.declared.Ticket.{Ticket}
+use Rattle.tickets.specs.Tickets.{Ticket}
 use Rattle.tickets.specs.declared.SwapTried.{SwapTried}
-use Rattle.tickets.specs.declared.Stepped.{Stepped}
+use Rattle.tickets.specs.Steps.{Stepped}
 use Rattle.tickets.specs.declared.StepAnswer.the-variants.{Found, Put, Returned, Granted, Stale, Seen}
 use Rattle.tickets.specs.Tickets.{noTicket, targetAt}
 use Rattle.tickets.specs.Steps.{swapTriedIn, swapTried, oneMoreTry, advanced, stepped, claimed, waited, viewClaimed, viewWaited, valuesSeen, settledIn, settled, stepOf}

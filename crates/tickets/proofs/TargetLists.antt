@@ -9,7 +9,7 @@ use lib.Seq.{ext-getD}
 use Rattle.words.specs.Words.{mostTargets}
 use Rattle.tickets.specs.declared.Target.{Target}
 use Rattle.tickets.specs.declared.Phase.{Phase}
-use Rattle.tickets.specs.declared.Ticket.{Ticket}
+use Rattle.tickets.specs.Tickets.{Ticket}
 use Rattle.tickets.specs.Tickets.{target, targetAt, targetsFrom, targetsIn}
 use Rattle.tickets.specs.Steps.{advanced}
 use Rattle.tickets.specs.Targets.{targetIn, Claimable, AllMatch, PutInto}

@@ -4,8 +4,8 @@ use mathlib.Core.Path.{refl, sym, subst}
 use native.Mathlib.Omega.{arith}
 use native.Mathlib.Decide.{decLt}
 use borrow.Author.Tests.{lt-ltb, le-ltb}
-use Rattle.tickets.specs.declared.Ticket.{Ticket}
-use Rattle.tickets.specs.declared.Stepped.{Stepped}
+use Rattle.tickets.specs.Tickets.{Ticket}
+use Rattle.tickets.specs.Steps.{Stepped}
 use Rattle.tickets.specs.Steps.{mostTries, oneMoreTry, settled}
 use Rattle.tickets.specs.Invariant.{TriesTold, TriesCounted, TriesStop}
 use Rattle.tickets.proofs.Outcomes.{Outcome, claims-one, claims-last, waits, differs-later, differs-first, puts-one, puts-last, returns-one, returns-last, notes-one, notes-last, view-waits, view-returns-one, view-returns-last, outcome}

@@ -13,7 +13,7 @@ use Rattle.words.proofs.Tests.{split, join}
 use Rattle.tickets.specs.declared.Target.{Target}
 use Rattle.tickets.specs.declared.Phase.{Phase}
 use Rattle.tickets.specs.declared.Phase.the-variants.{NoTicket, Claiming, Putting, GivingBack, Viewing, Viewed}
-use Rattle.tickets.specs.declared.Ticket.{Ticket}
+use Rattle.tickets.specs.Tickets.{Ticket}
 use Rattle.tickets.specs.declared.StepAnswer.{StepAnswer}
 use Rattle.tickets.specs.Tickets.{noTicket, targetAt, targetsIn, wordsIn, namedIn, hasTicket, isView, targetWellMade, allWellMade, countsWellMade, namesWellMade, viewWellMade, wellMade}
 use Rattle.tickets.specs.Steps.{advanced, stepped, noting, settled}

@@ -1,23 +1,19 @@
 -- "Tickets and steps": one step is one conditional swap; a look is one read.
-use Prim.Native.Nat.{ℕ, _+_, _<_}
+use Prim.Native.Nat.{ℕ, _+_}
 use mathlib.Core.Bool.{Bool, true, false, cond}
 use mathlib.Core.List.{List, [], _∷_, map}
 use lib.ListN.{getD, set}
 use lib.Dec.{eqb, ltb}
 use Rattle.words.specs.Words.{Words, isHeld, markOf, holderOf, readOf, swapOf, anyValue}
-use Rattle.tickets.specs.Tickets.{noTicket, targetAt, targetsIn, namedIn}
+use Rattle.tickets.specs.Tickets.{Ticket, noTicket, targetAt, targetsIn, namedIn}
 use Rattle.tickets.specs.declared.Target.{Target}
 use Rattle.tickets.specs.declared.Phase.{Phase}
 use Rattle.tickets.specs.declared.Phase.the-variants.{NoTicket, Claiming, Putting, GivingBack, Viewing, Viewed}
-use Rattle.tickets.specs.declared.Ticket.{Ticket}
 use Rattle.tickets.specs.declared.SwapTried.{SwapTried}
 use Rattle.tickets.specs.declared.StepAnswer.{StepAnswer}
 use Rattle.tickets.specs.declared.StepAnswer.the-variants.{Claimed, Waiting, Found, Put, Returned, Granted, Stale, Seen}
-use Rattle.tickets.specs.declared.EditAnswer.{EditAnswer}
-use Rattle.tickets.specs.declared.EditAnswer.the-variants as Edits
 use Rattle.tickets.specs.declared.LookAnswer.{LookAnswer}
 use Rattle.tickets.specs.declared.LookAnswer.the-variants.{Held, Value}
-use Rattle.tickets.specs.declared.Stepped.{Stepped}
 use Rattle.tickets.specs.declared.Values.{Values}
 
 -- A conditional swap of a word, from an expected to a desired value.
@@ -60,6 +56,11 @@ advanced ticket phase claimed done = record {
   done = done;
   phase = phase;
 }
+
+-- A ticket after a step, and the step's answer.
+pub record Stepped : Type 0 where
+  pub ticket : Ticket
+  pub answer : StepAnswer
 
 abbrev pub stepped : Ticket → StepAnswer → Stepped
 stepped ticket answer = record { ticket = ticket; answer = answer }
@@ -177,46 +178,6 @@ settledIn NoTicket ticket found = stepped ticket (Returned (ticket .done))
 
 unfoldable pub settled : Ticket → ℕ → Stepped
 settled ticket found = settledIn (ticket .phase) ticket found
-
--- The answer to an edit's step, among those to any step.
-abbrev pub asStep : EditAnswer → StepAnswer
-asStep (Edits.Claimed many) = Claimed many
-asStep (Edits.Waiting word team) = Waiting word team
-asStep (Edits.Found word) = Found word
-asStep (Edits.Put many) = Put many
-asStep (Edits.Returned many) = Returned many
-asStep (Edits.Granted tries) = Granted tries
-asStep (Edits.Stale word tries) = Stale word tries
-
--- Whether an edit's ticket is gone with an answer: "a finished ticket is gone".
-abbrev pub finishes : EditAnswer → Bool
-finishes (Edits.Claimed many) = false
-finishes (Edits.Waiting word team) = false
-finishes (Edits.Found word) = false
-finishes (Edits.Put many) = false
-finishes (Edits.Returned many) = false
-finishes (Edits.Granted tries) = true
-finishes (Edits.Stale word tries) = true
-
--- The ticket that a step of an edit leaves, by the answer alone. (A view's depends on the value found.)
-abbrev pub afterAnswer : Ticket → EditAnswer → Ticket
-afterAnswer ticket (Edits.Claimed many) = claimed ticket .ticket
-afterAnswer ticket (Edits.Waiting word team) = advanced ticket Claiming (ticket .claimed) (ticket .done)
-afterAnswer ticket (Edits.Found word) = advanced ticket GivingBack (ticket .claimed) 0
-afterAnswer ticket (Edits.Put many) = advanced ticket Putting (ticket .claimed) (ticket .done + 1)
-afterAnswer ticket (Edits.Returned many) = advanced ticket GivingBack (ticket .claimed) (ticket .done + 1)
-afterAnswer ticket (Edits.Granted tries) = noTicket
-afterAnswer ticket (Edits.Stale word tries) = noTicket
-
--- What an answer says of the counts that the ticket had: there was one more to claim, and after this one, one to put or to give back.
-abbrev pub AnswerFits : Ticket → EditAnswer → Type 0
-AnswerFits ticket (Edits.Claimed many) = ticket .claimed < ticket .n
-AnswerFits ticket (Edits.Waiting word team) = Unit {0}
-AnswerFits ticket (Edits.Found word) = Unit {0}
-AnswerFits ticket (Edits.Put many) = ticket .done + 1 < ticket .n
-AnswerFits ticket (Edits.Returned many) = ticket .done + 1 < ticket .claimed
-AnswerFits ticket (Edits.Granted tries) = Unit {0}
-AnswerFits ticket (Edits.Stale word tries) = Unit {0}
 
 -- A step is one conditional swap: the one that the ticket tries. What it found settles the ticket and the answer.
 unfoldable pub stepOf : Words → Ticket → ℕ → Stepped × Words

@@ -7,7 +7,7 @@ use Rattle.words.specs.Words.{Words, Swap, isHeld, markOf, readOf, swapOf}
 use Rattle.tickets.specs.Tickets.{targetAt}
 use Rattle.tickets.specs.Steps.{swapTried, viewClaimed, viewWaited, stepOf}
 use Rattle.tickets.specs.declared.Phase.the-variants.{Viewing}
-use Rattle.tickets.specs.declared.Ticket.{Ticket}
+use Rattle.tickets.specs.Tickets.{Ticket}
 use Rattle.tickets.specs.declared.SwapTried.{SwapTried}
 use Rattle.tickets.specs.declared.StepAnswer.{StepAnswer}
 use Rattle.tickets.specs.declared.StepAnswer.the-variants.{Claimed, Waiting, Found, Put, Returned, Granted, Stale, Seen}

@@ -44,9 +44,13 @@ nobody = 65535
 abbrev pub holderOf : ℕ → ℕ
 holderOf word = cond (isHeld word) (cond (ltb (word - 2 ^ 63) teamCount) (word - 2 ^ 63) nobody) nobody
 
--- A ticket has room for six targets.
+-- A ticket has up to six targets,
 abbrev pub mostTargets : ℕ
 mostTargets = 6
+
+-- and a view names up to six words.
+abbrev pub mostNamed : ℕ
+mostNamed = 6
 
 -- Passages 0 to 31.
 abbrev pub passageCount : ℕ

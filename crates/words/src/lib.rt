@@ -4,7 +4,7 @@ ghost use mathlib.Core.Bool.{Bool, true};
 ghost use Prim.Native.Nat.{_≤_, _<_};
 ghost use lib.ListN.{length, take, drop};
 ghost use Rattle.words.specs.Tests.{occurs, distinct};
-ghost use Rattle.words.specs.Words.{teamCount, mostTargets, passageCount, lastLeg, isHeld, markOf, holderOf, newestWord, countWord, linkWord, placeWord, measureWord, readOf, swapOf, anyValue};
+ghost use Rattle.words.specs.Words.{teamCount, mostNamed, passageCount, lastLeg, isHeld, markOf, holderOf, newestWord, countWord, linkWord, placeWord, measureWord, readOf, swapOf, anyValue};
 
 // The limits of the book and its layout.
 pub struct Limits {}
@@ -26,8 +26,11 @@ impl Limits {
     // The last leg's number; legs start at 1, and 0 means none.
     pub const LAST_LEG: u16 = 1344;
 
-    // The most targets that a ticket has room for.
+    // The most targets of a ticket,
     pub const TARGETS: usize = 6;
+
+    // and the most words that a view names.
+    pub const NAMED: usize = 6;
 
     // The shelves of a store, each of which keeps a book.
     pub const SHELVES: usize = 3;
@@ -153,8 +156,8 @@ pub fn swap_any_value(book: &mut [u64], at: usize, desired: u64) -> Report
 }
 
 // Whether a number is among the first n, from one on.
-pub fn occurs_from(numbers: [u64; Limits::TARGETS], from: usize, n: usize, number: u64) -> bool
-    requires { ⌜ n ≤ mostTargets ⌝ }
+pub fn occurs_from(numbers: [u64; Limits::NAMED], from: usize, n: usize, number: u64) -> bool
+    requires { ⌜ n ≤ mostNamed ⌝ }
     ensures { λ r. ⌜ r ≡ occurs number (drop from (take n numbers)) ⌝ }
 {
     let mut k = from;
@@ -168,8 +171,8 @@ pub fn occurs_from(numbers: [u64; Limits::TARGETS], from: usize, n: usize, numbe
 }
 
 // Whether no number is twice among the first n.
-pub fn distinct(numbers: [u64; Limits::TARGETS], n: usize) -> bool
-    requires { ⌜ n ≤ mostTargets ⌝ }
+pub fn distinct(numbers: [u64; Limits::NAMED], n: usize) -> bool
+    requires { ⌜ n ≤ mostNamed ⌝ }
     ensures { λ r. ⌜ r ≡ distinct (take n numbers) ⌝ }
 {
     let mut k: usize = 0;

@@ -6,7 +6,7 @@ use native.Mathlib.Omega.{arith}
 use Prim.Native.Nat.{ℕ, _-_, _≤_, _<_}
 use lib.ListN.{set}
 use denote.Ref.{now}
-use Rattle.words.specs.Words.{mostTargets}
+use Rattle.words.specs.Words.{mostNamed}
 use Rattle.tickets.specs.Tickets.{padded}
 use Rattle.frames.specs.Numbers.{numbers16}
 use Rattle.decoder.proofs.Viewed.{word-read, many-words}
@@ -56,7 +56,7 @@ loop-again c =
     let start = at .before .before .before in
     let k = at .before .loop .k in
     let word = c .read16 .result in
-    let room : k < mostTargets = omega (arith, at .loop-test .taken, start .pre .0) in
+    let room : k < mostNamed = omega (arith, at .loop-test .taken, start .pre .0) in
     (ap (λ (l : List ℕ). set l k word) (at .before .loop .inv .0) ∙ word-read (now (start .args .part)) k word room (c .read16 .ensures .0), omega (arith, at .loop-test .taken))
 
 returns : tie.Need-returns Inv-loop μ-loop

@@ -8,7 +8,7 @@ use mathlib.Core.Bool.{true, false}
 use native.Mathlib.Omega.{arith}
 use denote.Ref.{now}
 use Rattle.legs.specs.Positions.{isPermutation}
-use Rattle.tickets.specs.Tickets.{ticketOf}
+use Rattle.tickets.specs.Table.{tableOf}
 use Rattle.calls.specs.Call.{bookLengthWrong}
 use Rattle.calls.specs.Outcomes.{ticketStands}
 use Rattle.calls.specs.declared.Outcome.the-variants as Outcome
@@ -20,7 +20,7 @@ cast-number c = search needs
 returns : tie.Need-returns
 returns c =
     let start = c .before .before .before in
-    sym (load-is (now (start .args .book)) (start .args .tickets) (now (start .args .ranks)) (now (start .args .loaded)) true (isPermutation (now (start .args .loaded))) (ticketStands (start .args .tickets)) (book-wrong (now (start .args .book)) (c .if1 .taken)) refl refl)
+    sym (load-is (now (start .args .book)) (tableOf (start .args .tickets)) (now (start .args .ranks)) (now (start .args .loaded)) true (isPermutation (now (start .args .loaded))) (ticketStands (tableOf (start .args .tickets))) (book-wrong (now (start .args .book)) (c .if1 .taken)) refl refl)
 
 is-permutation-requires : tie.Need-is-permutation-requires
 is-permutation-requires c κs = search needs
@@ -31,7 +31,7 @@ cast-number-2 c = search needs
 returns-2 : tie.Need-returns-2
 returns-2 c =
     let start = c .before .before .before .before .before in
-    sym (load-is (now (start .args .book)) (start .args .tickets) (now (start .args .ranks)) (now (start .args .loaded)) false false (ticketStands (start .args .tickets)) (book-right (now (start .args .book)) (omega (arith, c .before .before .if1 .left)))
+    sym (load-is (now (start .args .book)) (tableOf (start .args .tickets)) (now (start .args .ranks)) (now (start .args .loaded)) false false (ticketStands (tableOf (start .args .tickets))) (book-right (now (start .args .book)) (omega (arith, c .before .before .if1 .left)))
     (sym (c .before .is-permutation .ensures) ∙ not-true _ (c .if2 .taken)) refl)
 
 any-stands-requires : tie.Need-any-stands-requires
@@ -39,24 +39,24 @@ any-stands-requires c κs = search needs
 
 returns-3 : tie.Need-returns-3
 returns-3 c =
-    let at = c .before .before in
+    let at = c .before .before .before in
     let start = at .before .before .before .before .before in
-    sym (load-is (now (start .args .book)) (start .args .tickets) (now (start .args .ranks)) (now (start .args .loaded)) false true true (book-right (now (start .args .book)) (omega (arith, at .before .before .if1 .left)))
-    (sym (at .before .is-permutation .ensures) ∙ not-false _ (at .if2 .left)) (sym (c .before .any-stands .ensures) ∙ c .if3 .taken))
+    sym (load-is (now (start .args .book)) (tableOf (start .args .tickets)) (now (start .args .ranks)) (now (start .args .loaded)) false true true (book-right (now (start .args .book)) (omega (arith, at .before .before .if1 .left)))
+    (sym (at .before .is-permutation .ensures) ∙ not-false _ (at .if2 .left)) (sym (c .before .any-stands .ensures (start .args .tickets .targets)) ∙ c .if3 .taken))
 
 take-over-requires : tie.Need-take-over-requires
 take-over-requires c κs =
-    let at = c .before .before .before in
+    let at = c .before .before .before .before in
     permutation-long (now (at .before .before .before .before .before .args .loaded)) (sym (at .before .is-permutation .ensures) ∙ not-false _ (at .if2 .left))
 
 returns-4 : tie.Need-returns-4
 returns-4 c =
     let last = c .before .before in
-    let at = last .before .before in
+    let at = last .before .before .before in
     let start = at .before .before .before .before .before in
     (λ i. (Outcome.Done, c .take-over .ensures i))
-    ∙ sym (load-is (now (start .args .book)) (start .args .tickets) (now (start .args .ranks)) (now (start .args .loaded)) false true false (book-right (now (start .args .book)) (omega (arith, at .before .before .if1 .left)))
-    (sym (at .before .is-permutation .ensures) ∙ not-false _ (at .if2 .left)) (sym (last .before .any-stands .ensures) ∙ last .if3 .left))
+    ∙ sym (load-is (now (start .args .book)) (tableOf (start .args .tickets)) (now (start .args .ranks)) (now (start .args .loaded)) false true false (book-right (now (start .args .book)) (omega (arith, at .before .before .if1 .left)))
+    (sym (at .before .is-permutation .ensures) ∙ not-false _ (at .if2 .left)) (sym (last .before .any-stands .ensures (start .args .tickets .targets)) ∙ last .if3 .left))
 
 pub load-spec : {M : Type 1} → statement M
 load-spec =

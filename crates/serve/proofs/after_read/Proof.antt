@@ -3,6 +3,7 @@ use borrow.Author.Needs.{needs}
 use native.Mathlib.Omega.{arith}
 use mathlib.Core.Path.{_∙_}
 use denote.Ref.{now}
+use Rattle.tickets.specs.Table.{tableOf}
 use Rattle.serve.proofs.Serving.{serves-end, serves-read}
 use Rattle.serve.proofs.after_read.Statement.{statement}
 use Rattle.serve.proofs.after_read.Tie as tie
@@ -17,7 +18,7 @@ returns : tie.Need-returns
 returns c =
     let args = c .before .before .before .before .before .before .before .before .before .args in
     let ended = c .before .before .at-end .ensures in
-    ((omega arith, ended .1), serves-end (now (args .book)) (args .tickets) (now (args .ranks)) (now (args .buffer)) (args .have) (args .got) (now (args .out)) (c .before .before .before .before .if1 .taken) (ended .0))
+    ((omega arith, ended .1), serves-end (now (args .book)) (tableOf (args .tickets)) (now (args .ranks)) (now (args .buffer)) (args .have) (args .got) (now (args .out)) (c .before .before .before .before .if1 .taken) (ended .0))
 
 add-serve-front : tie.Need-add-serve-front
 add-serve-front c = search needs
@@ -38,7 +39,7 @@ returns-2 : tie.Need-returns-2
 returns-2 c =
     let args = c .before .before .before .before .before .before .before .before .before .before .before .before .before .before .before .args in
     let answered = c .before .before .before .before .before .before .serve-front .ensures in
-    ((answered .0 .1, answered .0 .2), answered .1 ∙ serves-read (now (args .book)) (args .tickets) (now (args .ranks)) (now (args .buffer)) (args .have) (args .got) (now (args .out)) (c .before .before .before .before .before .before .before .before .before .before .if1 .left))
+    ((answered .0 .1, answered .0 .2), answered .1 ∙ serves-read (now (args .book)) (tableOf (args .tickets)) (now (args .ranks)) (now (args .buffer)) (args .have) (args .got) (now (args .out)) (c .before .before .before .before .before .before .before .before .before .before .if1 .left))
 
 pub after-read-spec : {M : Type 1} → statement M
 after-read-spec =

@@ -3,7 +3,7 @@ use Rattle.frames.specs.declared.Answer.the-variants.{Refused}
 use Rattle.frames.specs.Answers.{answerFrame}
 use mathlib.Core.Path.{refl}
 use denote.Ref.{now}
-use Rattle.book.proofs.Turning.{put-at}
+use Rattle.replies.proofs.Placing.{put-at}
 use borrow.Author.Needs.{needs}
 use Rattle.serve.proofs.put_torn.Statement.{statement}
 use Rattle.serve.proofs.put_torn.Tie as tie
@@ -17,8 +17,8 @@ part-room-start c = search needs
 part-room-end : tie.Need-part-room-end
 part-room-end c = search needs
 
-write-answer-requires : tie.Need-write-answer-requires
-write-answer-requires c κs = search needs
+write-refused-requires : tie.Need-write-refused-requires
+write-refused-requires c κs = search needs
 
 add-result : tie.Need-add-result
 add-result c = search needs
@@ -29,7 +29,7 @@ same-length c = search needs
 returns : tie.Need-returns
 returns c =
     let start = c .before .before .before .before .before in
-    let sent = c .before .before .write-answer in
+    let sent = c .before .before .write-refused in
     put-at (now (start .args .out)) (start .args .at) (answerFrame (Refused 3)) _ _ _ (start .pre .0) (start .pre .1) (sent .ensures) refl (c .before .out .given .1)
 
 pub put-torn-spec : {M : Type 1} → statement M
@@ -39,7 +39,7 @@ put-torn-spec =
     sub-room
     part-room-start
     part-room-end
-    write-answer-requires
+    write-refused-requires
     add-result
     same-length
     returns)

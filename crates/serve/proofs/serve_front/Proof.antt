@@ -2,6 +2,7 @@
 use native.Mathlib.Omega.{arith}
 use mathlib.Core.Path.{sym, _∙_}
 use denote.Ref.{now}
+use Rattle.tickets.specs.Table.{tableOf}
 use borrow.Author.Tests.{not-true, not-false}
 use Rattle.serve.proofs.Serving.{serves-refused, serves-on, room-to-refuse, refused-inside, few-kept}
 use borrow.Author.Needs.{needs}
@@ -19,8 +20,7 @@ put-torn-requires c κs =
     let start = c .before .before .before .before .before .before .before .before .before .before .before .before .before .before .before .before in
     let args = start .args in
     let answered = c .before .before .before .before .before .before .before .before .stream-front in
-    room-to-refuse (now (args .book)) (args .tickets) (now (args .ranks)) (now (args .buffer)) (args .have) (now (args .out)) _ _ _ (answered .ensures .1) (start .pre .1) (start .pre .2) (start .pre .0) (start .pre .3)
-    (sym (c .before .before .goes-on .ensures) ∙ not-true _ (c .before .if1 .taken))
+    room-to-refuse (now (args .book)) (tableOf (args .tickets)) (now (args .ranks)) (now (args .buffer)) (args .have) (now (args .out)) _ _ _ (answered .ensures .1) (start .pre .1) (start .pre .2) (start .pre .0) (start .pre .3)
 
 same-length : tie.Need-same-length
 same-length c = search needs
@@ -38,8 +38,8 @@ returns c =
     let answered = c .before .before .before .before .before .before .before .before .before .before .before .stream-front in
     let put = c .before .before .put-torn .ensures in
     let ends = sym (c .before .before .before .before .before .goes-on .ensures) ∙ not-true _ (c .before .before .before .before .if1 .taken) in (
-      (omega arith, omega arith, refused-inside (now (args .book)) (args .tickets) (now (args .ranks)) (now (args .buffer)) (args .have) (now (args .out)) _ _ _ (answered .ensures .1) (start .pre .1) (start .pre .2) (start .pre .0) (start .pre .3) put),
-      serves-refused (now (args .book)) (args .tickets) (now (args .ranks)) (now (args .buffer)) (args .have) (now (args .out)) _ _ _ (answered .ensures .1) put ends,
+      (omega arith, omega arith, refused-inside (now (args .book)) (tableOf (args .tickets)) (now (args .ranks)) (now (args .buffer)) (args .have) (now (args .out)) _ _ _ (answered .ensures .1) (start .pre .1) (start .pre .2) (start .pre .0) (start .pre .3) put),
+      serves-refused (now (args .book)) (tableOf (args .tickets)) (now (args .ranks)) (now (args .buffer)) (args .have) (now (args .out)) _ _ _ (answered .ensures .1) put ends,
     )
 
 shift-requires : tie.Need-shift-requires
@@ -61,8 +61,8 @@ returns-2 c =
     let answered = c .before .before .before .before .before .before .before .before .before .before .before .stream-front in
     let shifts = c .before .before .shift .ensures in
     let goes = sym (c .before .before .before .before .before .goes-on .ensures) ∙ not-false _ (c .before .before .before .before .if1 .left) in
-    let few = few-kept (now (args .book)) (args .tickets) (now (args .ranks)) (now (args .buffer)) (args .have) (now (args .out)) _ _ _ (answered .ensures .1) (start .pre .1) (start .pre .2) (start .pre .0) (start .pre .3) goes in
-    ((search needs, omega (arith, few, shifts .0), answered .ensures .0 .1), serves-on (now (args .book)) (args .tickets) (now (args .ranks)) (now (args .buffer)) (args .have) (now (args .out)) _ _ _ (answered .ensures .1) _ _ (shifts .0) (shifts .1) goes)
+    let few = few-kept (now (args .book)) (tableOf (args .tickets)) (now (args .ranks)) (now (args .buffer)) (args .have) (now (args .out)) _ _ _ (answered .ensures .1) (start .pre .1) (start .pre .2) (start .pre .0) (start .pre .3) goes in
+    ((search needs, omega (arith, few, shifts .0), answered .ensures .0 .1), serves-on (now (args .book)) (tableOf (args .tickets)) (now (args .ranks)) (now (args .buffer)) (args .have) (now (args .out)) _ _ _ (answered .ensures .1) _ _ (shifts .0) (shifts .1) goes)
 
 pub serve-front-spec : {M : Type 1} → statement M
 serve-front-spec =

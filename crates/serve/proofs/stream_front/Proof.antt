@@ -4,6 +4,7 @@ use Prim.Native.Nat.{ℕ, _-_}
 use mathlib.Core.Path.{_≡_, ap, _∙_}
 use lib.ListN.{take}
 use denote.Ref.{now}
+use Rattle.tickets.specs.Table.{tableOf}
 use Rattle.calls.specs.Stream.{streamOf}
 use borrow.Author.Needs.{needs}
 use Rattle.serve.proofs.stream_front.Statement.{statement}
@@ -32,7 +33,7 @@ returns c =
     let args = c .before .before .before .before .before .before .before .before .before .before .before .before .args in
     let answered = c .before .before .before .before .stream .ensures in
     let all : args .have - 0 ≡ args .have = omega arith in
-    ((search needs, search needs), answered .1 ∙ ap (λ (n : ℕ). streamOf (now (args .book)) (args .tickets) (now (args .ranks)) (take n (now (args .buffer))) (now (args .out))) all)
+    ((search needs, search needs), answered .1 ∙ ap (λ (n : ℕ). streamOf (now (args .book)) (tableOf (args .tickets)) (now (args .ranks)) (take n (now (args .buffer))) (now (args .out))) all)
 
 pub stream-front-spec : {M : Type 1} → statement M
 stream-front-spec =

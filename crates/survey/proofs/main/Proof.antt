@@ -1,7 +1,7 @@
 -- `survey::main` meets its contract: the buffers that it makes have room for every answer.
 use borrow.Author.Needs.{needs}
 use native.Mathlib.Omega.{arith}
-use Prim.Native.Nat.{ℕ, _*_, _≤_}
+use Prim.Native.Nat.{ℕ, _≤_}
 use mathlib.Core.Path.{_≡_, refl, sym, subst}
 use mathlib.Core.Bool.{true}
 use borrow.Author.Tests.{leb-true}
@@ -10,7 +10,7 @@ use lib.ListN.{length-replicate}
 use Rattle.legs.specs.Positions.{Accepted}
 use Rattle.legs.proofs.Ranks.{fixed-ranks-are-permutation}
 use Rattle.frames.specs.Fields.{longestFrame}
-use Rattle.frames.specs.Answers.{longestAnswer}
+use Rattle.calls.specs.Stream.{roomFor}
 use Rattle.survey.proofs.main.Statement.{statement}
 use Rattle.survey.proofs.main.Tie as tie
 
@@ -18,8 +18,8 @@ use Rattle.survey.proofs.main.Tie as tie
 holds-a-frame : {input long : ℕ} → input ≡ long → leb longestFrame input ≡ true → longestFrame ≤ long
 holds-a-frame {input} {long} size test = omega (arith, size, leb-true longestFrame input test)
 
-holds-answers : {input output long wide : ℕ} → input ≡ long → output ≡ wide → leb (longestAnswer * input) (2 * output) ≡ true → longestAnswer * long ≤ 2 * wide
-holds-answers {input} {output} {long} {wide} size room test = omega (arith, size, room, leb-true (longestAnswer * input) (2 * output) test)
+holds-answers : {input output long wide : ℕ} → input ≡ long → output ≡ wide → leb (roomFor input) output ≡ true → roomFor long ≤ wide
+holds-answers {input} {output} {long} {wide} size room test = omega (arith, size, room, leb-true (roomFor input) output test)
 
 fixed-ranks-requires : tie.Need-fixed-ranks-requires
 fixed-ranks-requires c κs = search needs

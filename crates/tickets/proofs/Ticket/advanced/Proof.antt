@@ -1,4 +1,4 @@
--- `tickets::Ticket::advanced` meets its contract: every field but tries is copied.
+-- `tickets::Ticket::advanced` meets its contract: one more try, and these counts.
 use borrow.Author.Needs.{needs}
 use Rattle.tickets.proofs.Ticket.advanced.Statement.{statement}
 use Rattle.tickets.proofs.Ticket.advanced.Tie as tie
@@ -8,17 +8,8 @@ tried-requires c κs = search needs
 
 returns : tie.Need-returns
 returns c =
-    let args = c .before .before .before .before .args in
-    λ i. record {
-      quoted = args .self .quoted;
-      new = args .self .new;
-      words = args .self .words;
-      n = args .self .n;
-      tries = c .tried .ensures i;
-      claimed = args .claimed;
-      done = args .done;
-      phase = args .phase;
-    }
+    let args = c .before .args in
+    λ i. record { tries = c .tried .ensures i; n = args .self .n; claimed = args .claimed; done = args .done; kind = args .self .kind }
 
 pub advanced-spec : {M : Type 1} → statement M
 advanced-spec = tie.close (tie.spec tried-requires returns)

@@ -1,24 +1,22 @@
--- `tickets::Ticket::claim` meets its contract: the last of the count is told apart by the same test as in the definition.
-use mathlib.Core.Path.{_∙_}
-use borrow.Author.Tests.{eq-eqb, ne-eqb}
+-- `tickets::Ticket::claim` meets its contract: one more claimed, in the slot and in the ticket gathered from it.
+use mathlib.Core.Path.{ap, _∙_}
 use borrow.Author.Needs.{needs}
+use Rattle.tickets.specs.Table.{gathered}
+use Rattle.tickets.proofs.Gathering.{gathered-claimed}
 use Rattle.tickets.proofs.Ticket.claim.Statement.{statement}
 use Rattle.tickets.proofs.Ticket.claim.Tie as tie
 
-add-claimed : tie.Need-add-claimed
-add-claimed c = search needs
+add-advanced : tie.Need-add-advanced
+add-advanced c = search needs
 
 advanced-requires : tie.Need-advanced-requires
 advanced-requires c κs = search needs
 
-advanced-requires-2 : tie.Need-advanced-requires-2
-advanced-requires-2 c κs = search needs
-
 returns : tie.Need-returns
-returns c = c .advanced .ensures ∙ simp (eq-eqb _ _ (c .before .if1 .taken))
-
-returns-2 : tie.Need-returns-2
-returns-2 c = c .advanced2 .ensures ∙ simp (ne-eqb _ _ (c .before .if1 .left))
+returns c =
+    let start = c .before .before in
+    let slot = c .advanced .ensures in
+    (slot, λ edit targets team. ap (gathered targets team) slot ∙ gathered-claimed targets team (start .args .self) edit (start .pre .0) (start .pre .1))
 
 pub claim-spec : {M : Type 1} → statement M
-claim-spec = tie.close (tie.spec add-claimed advanced-requires advanced-requires-2 returns returns-2)
+claim-spec = tie.close (tie.spec add-advanced advanced-requires returns)

@@ -1,0 +1,4 @@
+pub mod Placing
+pub mod Order
+pub mod Listed
+pub mod Rising

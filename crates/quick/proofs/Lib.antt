@@ -1,0 +1,4 @@
+pub mod Swapping
+pub mod Trying
+pub mod Telling
+pub mod Advancing
