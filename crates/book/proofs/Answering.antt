@@ -24,6 +24,8 @@ use Rattle.calls.specs.declared.Aim.the-variants as Aim
 use Rattle.calls.specs.Call.{Reply, callOf}
 use Rattle.calls.specs.Way.{Settled, aimOf, slotOf, settledBy}
 use Rattle.calls.proofs.Sending.{call-by}
+use Rattle.quick.specs.declared.Tried.{Tried}
+use Rattle.quick.specs.Quick.{untried}
 use Rattle.handlers.specs.declared.Opened.{Opened}
 use Rattle.handlers.specs.Settling.{stepBy, NoStep, SettledAs, StepLeft, slotAfter, OpenedAs}
 use Rattle.handlers.proofs.Cases.{step-by, no-word}
@@ -44,13 +46,14 @@ step-settles words ticket ranks frame (Aim.Team kind team) step =
 
 module _ (words : Words) (targets : List ℕ) (ranks : Ranks) (frame : Bytes) (aim : Aim) (slot : ℕ) (slotted : slot ≡ slotOf aim) (ticket : Slot.Ticket) where
   -- A step, none of which is tried on the fast way.
-  pub step-answered : (found : ℕ) (left : Slot.Ticket) (after : Words) (targets-after : List ℕ) (out : Bytes) (at place : ℕ) (output : Bytes) → isStepBy aim ≡ true
-      → StepLeft words targets slot ticket found 0 left after targets-after out at place output
+  pub step-answered : (tried : Tried) (left : Slot.Ticket) (after : Words) (targets-after : List ℕ) (out : Bytes) (at place : ℕ) (output : Bytes) → isStepBy aim ≡ true
+      → tried ≡ untried
+      → StepLeft words targets slot ticket tried left after targets-after out at place output
       → SettledAs (settledBy words (gathered targets slot ticket) ranks frame aim) targets-after slot left after out at place output
-  step-answered found left after targets-after out at place output step by =
+  step-answered tried left after targets-after out at place output step none by =
       subst (λ (r : Settled × Words). SettledAs r targets-after slot left after out at place output)
       (ap (stepBy words (gathered targets slot ticket)) slotted ∙ step-settles words (gathered targets slot ticket) ranks frame aim step)
-      (by .made (omega arith))
+      (by .made (ap (λ (t : Tried). t .claims) none))
 
   -- Any other frame.
   frame-there : (opened : Opened) (targets-after : List ℕ) (out : Bytes) (at : ℕ) (output : Bytes)

@@ -44,17 +44,23 @@ use Rattle.handlers.specs.declared.Opened.{Opened}
 use Rattle.handlers.specs.Settling.{stepBy, NoStep, SettledAs, StepLeft, slotAfter, OpenedAs}
 use Rattle.handlers.proofs.Cases.{step-by, steps-made, no-word}
 use Rattle.book.specs.Quickly.{quickFor, QuickSlots}
-use Rattle.book.proofs.Turning.{Goes, Turn, frameIn, teamOf, ticketIn, settledIn, slot-known-made, turned}
+use Rattle.book.proofs.Turning.{Goes, Turn, next-none, ended, frameIn, teamOf, ticketIn, settledIn, slot-known-made, turned}
 
 -- The point of the code at which something is to be shown.
 abbrev pub Point : {A : Type 0} {B : A → Type 0} → ((c : A) → B c) → Type 0
 Point {A} shown = A
 
 -- Where nothing is ahead to be answered, the stream ends.
-pub ends-ahead : (words : Words) (table : Table.Tickets) (ranks : Ranks) (input out : Bytes) (at filled most : ℕ) (stop : Stop) → 0 < most → aheadOf input at (length out - filled) ≡ Ahead.End stop
+pub ends-ahead : (words : Words) (table : Table.Tickets) (ranks : Ranks) (input out : Bytes) (at filled most : ℕ) (stop : Stop) → length input - at ≤ most → aheadOf input at (length out - filled) ≡ Ahead.End stop
     → streamFrom most words (tableOf table) ranks input out at filled ≡ (streamed (tableOf table) at filled stop, words, out)
 unfolding aheadOf
-ends-ahead words table ranks input out at filled most stop some ahead = by (nextAt input at) refl ahead
+ends-ahead words table ranks input out at filled most stop enough ahead = elim (decLt at (length input)) [
+  | yes more ↦ by (omega (arith, enough, more)) (nextAt input at) refl ahead
+  | no none ↦
+      let over : length input ≤ at = omega (arith, none) in
+      ended most words table ranks input out at filled over
+      ∙ (λ i. (streamed (tableOf table) at filled (ap stopIn (ap (λ (n : Next). stoppedOr n Ahead.End answeredIf) (sym (next-none input at over)) ∙ ahead) i), words, out))
+]
   where
     stopIn : Ahead → Stop
     stopIn (Ahead.End stop) = stop
@@ -75,10 +81,13 @@ ends-ahead words table ranks input out at filled most stop some ahead = by (next
         go true e = false≢true (ap ends e)
         go false e = false≢true (ap ends e)
 
-    by : (next : Next) → nextAt input at ≡ next → stoppedOr next Ahead.End (λ size. cond (ltb (length out - filled) longestAnswer) (Ahead.End OutputFull) (aheadBy (aimOf (frameAt input at size)) size)) ≡ Ahead.End stop
+    answeredIf : ℕ → Ahead
+    answeredIf size = cond (ltb (length out - filled) longestAnswer) (Ahead.End OutputFull) (aheadBy (aimOf (frameAt input at size)) size)
+
+    by : 0 < most → (next : Next) → nextAt input at ≡ next → stoppedOr next Ahead.End answeredIf ≡ Ahead.End stop
         → streamFrom most words (tableOf table) ranks input out at filled ≡ (streamed (tableOf table) at filled stop, words, out)
-    by (End found) is e = stops words (tableOf table) ranks input out at filled most found some is ∙ (λ i. (streamed (tableOf table) at filled (ap stopIn e i), words, out))
-    by (Frame size) is e = full-or (decLt (length out - filled) longestAnswer)
+    by some (End found) is e = stops words (tableOf table) ranks input out at filled most found some is ∙ (λ i. (streamed (tableOf table) at filled (ap stopIn e i), words, out))
+    by some (Frame size) is e = full-or (decLt (length out - filled) longestAnswer)
       where
         full-or : Dec (length out - filled < longestAnswer) → streamFrom most words (tableOf table) ranks input out at filled ≡ (streamed (tableOf table) at filled stop, words, out)
         full-or (yes short) =
@@ -255,25 +264,25 @@ module _ (turn : Turn) (team : ℕ) (is-step : turn .aim ≡ Aim.Team stepKind t
       )
     where
       same-number : (known : Bool) → Quick its-targets team its-slot → quickFor known (advancedBy (tried .claims) its-slot) ≡ quickFor known its-slot
-      same-number true fast = ap (λ b. quickSwaps (advancedBy b its-slot)) (says .claims-is) ∙ quick-kept its-targets team its-slot fast
+      same-number true fast = ap (λ b. quickSwaps (advancedBy b its-slot)) (says .claims-is went) ∙ quick-kept its-targets team its-slot fast
       same-number false fast = refl
 
   -- It did not: what the other steps leave.
   pub stepped-on : tried .went ≡ false → (left : Slot.Ticket) (targets-after : List ℕ) (words-after : Words) (place : ℕ) (output : Bytes) (value : ℕ)
-      → StepLeft after its-targets team its-slot (tried .found) (getD quick team 0) left words-after targets-after (turn .out) (turn .filled) place output
+      → StepLeft after its-targets team its-slot tried left words-after targets-after (turn .out) (turn .filled) place output
       → value ≡ quickFor (turn .known) left
       → Goes (turn .ranks) (turn .input) (turn .long) (turn .all) (turn .known) words-after output (tableWith (set (turn .table .slots) team left) targets-after) (turn .at + turn .size) place
       × QuickSlots (turn .known) (set (turn .table .slots) team left) (set quick team value)
   stepped-on missed left targets-after words-after place output value by number = (
-    step-turned turn team is-step quick kept left targets-after words-after place output (elim (decLt (its-slot .done) (getD quick team 0)) [ yes few ↦ tried-here few | no none ↦ made-there (omega (arith, none)) ]) (by .others) (by .whole ∙ whole),
+    step-turned turn team is-step quick kept left targets-after words-after place output (each (tried .claims) refl) (by .others) (by .whole ∙ whole),
     quick-stored (turn .known) (turn .table .slots) quick team value left known-team kept number,
   )
     where
-      tried-here : its-slot .done < getD quick team 0 → SettledAs (stepBy (turn .words) its-ticket team) targets-after team left words-after (turn .out) (turn .filled) place output
-      tried-here few =
-          let (targets-same, words-same, left-by) = by .missed few in
-          let fast = fast-at few in
-          let step = quick-missed (turn .words) its-targets team its-slot (getD quick team 0) tried after left (turn .out) (turn .filled) place output fast-at is missed few left-by in
+      tried-here : tried .claims ≡ true → SettledAs (stepBy (turn .words) its-ticket team) targets-after team left words-after (turn .out) (turn .filled) place output
+      tried-here claims =
+          let (targets-same, words-same, left-by) = by .missed claims in
+          let fast = fast-at (says .few-claimed claims) in
+          let step = quick-missed (turn .words) its-targets team its-slot (getD quick team 0) tried after left (turn .out) (turn .filled) place output fast-at is missed claims left-by in
           by-step turn team is-step quick kept left targets-after words-after place output (gathered-has its-targets team its-slot ∙ lt-ltb _ _ (fast .stands), fast .made)
           record {
             ticket-left = ap (λ (l : List ℕ). gathered l team left) targets-same ∙ step .ticket-left;
@@ -281,9 +290,13 @@ module _ (turn : Turn) (team : ℕ) (is-step : turn .aim ≡ Aim.Team stepKind t
             answered = step .answered;
           }
 
-      made-there : getD quick team 0 ≤ its-slot .done → SettledAs (stepBy (turn .words) its-ticket team) targets-after team left words-after (turn .out) (turn .filled) place output
+      made-there : tried .claims ≡ false → SettledAs (stepBy (turn .words) its-ticket team) targets-after team left words-after (turn .out) (turn .filled) place output
       made-there none =
-          subst (λ (w : Words). SettledAs (stepBy w its-ticket team) targets-after team left words-after (turn .out) (turn .filled) place output) (says .nothing-tried none) (by .made none)
+          subst (λ (w : Words). SettledAs (stepBy w its-ticket team) targets-after team left words-after (turn .out) (turn .filled) place output) (says .nothing-tried missed none) (by .made none)
+
+      each : (claims : Bool) → tried .claims ≡ claims → SettledAs (stepBy (turn .words) its-ticket team) targets-after team left words-after (turn .out) (turn .filled) place output
+      each true is = tried-here is
+      each false is = made-there is
 
 -- Any other frame, in the slot that the code took for it.
 module _ (turn : Turn) (other : NoStep (turn .aim)) (quick : List ℕ) (kept : QuickSlots (turn .known) (turn .table .slots) quick) (team : ℕ) (slotted : team ≡ teamOf turn) (opened : Opened) (targets-after : List ℕ) (output : Bytes)

@@ -19,6 +19,7 @@ use Rattle.frames.proofs.Bytes.{bytes-after}
 use Rattle.frames.specs.Answers.{answerFrame, longestAnswer, written, roomIn, withRoom, PutAt}
 use Rattle.calls.specs.declared.Aim.{Aim}
 use Rattle.calls.specs.declared.Stop.the-variants.{MoreInput}
+use Rattle.calls.specs.declared.Next.the-variants.{End}
 use Rattle.calls.specs.Way as way
 use Rattle.calls.specs.Way.{Settled, AimKnown, aimOf, settledBy}
 use Rattle.calls.specs.Stream.{Streamed, nextAt, streamed, streamFrom}
@@ -44,11 +45,15 @@ pub record Goes (ranks : Ranks) (input : Bytes) (long : ℕ) (all : Streamed × 
   pub made : known ≡ true → TableWellMade (tableOf table)
   pub accepted : Accepted ranks
 
--- Where no byte is left it has ended.
+-- Where no byte is left no frame stands, and it has ended.
+pub next-none : (input : Bytes) (at : ℕ) → length input ≤ at → nextAt input at ≡ End MoreInput
+unfolding nextAt
+next-none input at none = rw (lt-ltb (length input - at) 2 (omega arith)) refl
+
 pub ended : (most : ℕ) (words : Words) (table : Table.Tickets) (ranks : Ranks) (input out : Bytes) (at filled : ℕ) → length input ≤ at → streamFrom most words (tableOf table) ranks input out at filled ≡ (streamed (tableOf table) at filled MoreInput, words, out)
-unfolding streamFrom nextAt
+unfolding streamFrom
 ended zero words table ranks input out at filled none = refl
-ended (suc most) words table ranks input out at filled none = rw (lt-ltb (length input - at) 2 (omega arith)) refl
+ended (suc most) words table ranks input out at filled none = rw (next-none input at none) refl
 
 -- What the code has where it answers a frame: the invariant, the frame found, room for its answer, and its aim.
 pub record Turn : Type 0 where
@@ -64,7 +69,6 @@ pub record Turn : Type 0 where
   pub filled : ℕ
   pub goes : Goes ranks input long all known words out table at filled
   pub bytes : areBytes input ≡ true
-  pub some : at < length input
   pub size : ℕ
   pub ahead : FrameAhead input at (length out - filled) size
   pub aim : Aim
@@ -115,8 +119,8 @@ module _ (turn : Turn) (slot : Slot.Ticket) (targets : List ℕ) (after : Words)
       let ((counted, fits), (filled, long)) = answered in
       let before = turn .goes .left in
       let enough = before .enough in
-      let some : 0 < before .most = omega (arith, enough, turn .some) in
       let ahead = turn .ahead in
+      let some : 0 < before .most = omega (arith, enough, ahead .least, ahead .inside) in
       record {
         book = whole;
         inside = ahead .inside;

@@ -5,7 +5,7 @@ ghost use Prim.Native.Nat.{ℕ, _≤_, _<_};
 ghost use lib.ListN.{length};
 ghost use Rattle.words.specs.Words.{wordsInBook};
 ghost use Rattle.legs.specs.Positions.{Accepted};
-ghost use Rattle.tickets.specs.Table.{tableOf};
+ghost use Rattle.tickets.specs.Table.{tableWith, tableOf};
 ghost use Rattle.calls.specs.Call.{replyOf, callOf};
 ghost use Rattle.calls.specs.Stream.{streamed, streamedOf, streamFrom, streamOf};
 ghost use Rattle.calls.specs.Way.{AimKnown, slotOf, settledBy};
@@ -22,6 +22,9 @@ use frames::Answer;
 use frames::Frame;
 use frames::Kind;
 use frames::Refusal;
+use handlers::other_frame;
+use handlers::other_step;
+use quick::Tried;
 use replies::Left;
 use tickets::Ticket;
 use tickets::Tickets;
@@ -54,9 +57,9 @@ fn answer(
     ensures others { λ r. ⌜ ElsewhereSame (now (targets .entry)) (now (targets .exit)) slot ⌝ }
 {
     if is_step(aim) {
-        return handlers::other_step(book, targets, ticket, slot, 0, 0, false, out, 0);
+        return other_step(book, targets, ticket, slot, Tried::none(), false, out, 0);
     }
-    let opened = handlers::other_frame(book, targets, ranks, ticket, false, frame, aim, out, 0);
+    let opened = other_frame(book, targets, ranks, ticket, frame, aim, out, 0);
     let filled = opened.filled;
     if opened.opens {
         let after = opened.ticket;
@@ -156,11 +159,21 @@ fn stopped(tickets: Tickets, consumed: usize, written: usize, stop: Stop) -> Str
     }
 }
 
-// All frames, one after another, the table in one local. An edit's claims and puts that go through, as most frames are, have
-// the fast way; where all tickets are well made at the start they stay so, and none is tested again.
+// The table of these slots and targets.
+fn table_with(slots: [Ticket; Limits::TEAMS], targets: [u64; Tickets::NUMBERS]) -> Tickets
+    ensures { λ r. ⌜ r ≡ tableWith slots targets ⌝ }
+{
+    Tickets {
+        slots: slots,
+        targets: targets,
+    }
+}
+
+// All frames, one after another, the table in two locals. An edit's claims and puts that go through, as most frames are, have
+// the fast way; where all tickets are well made at the start they stay so, and no step tests one again.
 fn answer_frames(
     book: &mut [u64],
-    mut tickets: Tickets,
+    tickets: Tickets,
     ranks: &[u16],
     input: &[u8],
     out: &mut [u8],
@@ -168,73 +181,49 @@ fn answer_frames(
     requires { ⌜ (length (now book) ≡ wordsInBook) × Accepted (now ranks) ⌝ }
     ensures { λ r. ⌜ ((r .consumed ≤ length (now (input .entry))) × (r .written ≤ length (now (out .entry)))) × ((streamedOf r, now (book .exit), now (out .exit)) ≡ streamFrom (length (now (input .entry))) (now (book .entry)) (tableOf tickets) (now (ranks .entry)) (now (input .entry)) (now (out .entry)) 0 0) ⌝ }
 {
-    let slots = tickets.slots;
-    let known = making::all_well_made(slots, &tickets.targets);
+    let mut slots = tickets.slots;
+    let mut targets = tickets.targets;
+    let known = making::all_well_made(slots, &targets);
     let mut quick = all_quick(slots, known);
     let mut at: usize = 0;
     let mut filled: usize = 0;
-    while at < input.len() {
+    loop {
         let next = dispatch::next_at(input, at, out.len() - filled);
         match next {
-            Ahead::End(stop) => {
-                return stopped(tickets, at, filled, stop);
-            }
+            Ahead::End(stop) => return stopped(table_with(slots, targets), at, filled, stop),
             Ahead::Step(team) => {
                 at += Frame::STEP;
                 let slot = team as usize;
-                let next = tickets.slots[slot];
-                let tried = quick::try_quick(book, &tickets.targets, next, slot, quick[slot]);
-                let ticket = tickets.slots[slot];
+                let tried = quick::try_quick(book, &targets, slots[slot], slot, quick[slot]);
+                let ticket = slots[slot];
                 if tried.went {
                     let after = quick::advanced(ticket, tried.claims);
-                    tickets.slots[slot] = after;
+                    slots[slot] = after;
                     filled = quick::put_told(out, filled, tried.claims, after);
-                } else {
-                    let left = handlers::other_step(
-                        book,
-                        &mut tickets.targets,
-                        ticket,
-                        slot,
-                        tried.found,
-                        quick[slot],
-                        known,
-                        out,
-                        filled,
-                    );
-                    let after = left.ticket;
-                    tickets.slots[slot] = after;
-                    quick[slot] = quick_of(after, known);
-                    filled = left.filled;
+                    continue;
                 }
+                let left = other_step(book, &mut targets, ticket, slot, tried, known, out, filled);
+                let after = left.ticket;
+                slots[slot] = after;
+                quick[slot] = quick_of(after, known);
+                filled = left.filled;
             }
             Ahead::Other(size) => {
-                let end = at + size;
-                let frame = &input[at..end];
-                at = end;
+                let frame = &input[at..at + size];
+                at += size;
                 let aim = dispatch::aim_of(frame);
                 let slot = dispatch::slot_of(aim);
-                let ticket = tickets.slots[slot];
-                let opened = handlers::other_frame(
-                    book,
-                    &mut tickets.targets,
-                    ranks,
-                    ticket,
-                    known,
-                    frame,
-                    aim,
-                    out,
-                    filled,
-                );
-                filled = opened.filled;
-                if opened.opens {
-                    let after = opened.ticket;
-                    tickets.slots[slot] = after;
+                let ticket = slots[slot];
+                let left = other_frame(book, &mut targets, ranks, ticket, frame, aim, out, filled);
+                filled = left.filled;
+                if left.opens {
+                    let after = left.ticket;
+                    slots[slot] = after;
                     quick[slot] = quick_of(after, known);
                 }
             }
         }
     }
-    stopped(tickets, at, filled, Stop::MoreInput)
 }
 
 // All whole frames of the input, answered one after another.

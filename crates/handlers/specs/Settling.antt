@@ -1,7 +1,7 @@
 -- What a frame leaves: the ticket that its slot then says, the words, and its answer at a place of the output.
-use Prim.Native.Nat.{ℕ, _≤_, _<_}
+use Prim.Native.Nat.{ℕ}
 use mathlib.Core.Path.{_≡_}
-use mathlib.Core.Bool.{false, cond}
+use mathlib.Core.Bool.{true, false, cond}
 use mathlib.Core.List.{List}
 use lib.Dec.{eqb}
 use lib.ListN.{length}
@@ -19,6 +19,7 @@ use Rattle.calls.specs.declared.Aim.{Aim}
 use Rattle.calls.specs.declared.Aim.the-variants as Aim
 use Rattle.calls.specs.Way.{Settled, settledWith, stepSettled, newSettled}
 use Rattle.claiming.specs.Missing.{MissLeft}
+use Rattle.quick.specs.declared.Tried.{Tried}
 use Rattle.handlers.specs.declared.Opened.{Opened}
 
 -- A step of a team, by its ticket: refusal 9 or 7, else the step.
@@ -48,11 +49,11 @@ pub record SettledAs (result : Settled × Words) (targets : List ℕ) (team : �
   pub answered : PutAt out at (answerFrame (result .0 .answer)) place output
 
 -- What a step off the fast way leaves: that of a claim which missed there changes no word and no target; any other is made here.
-pub record StepLeft (before : Words) (targets-before : List ℕ) (team : ℕ) (slot : Slot.Ticket) (found quick : ℕ) (left : Slot.Ticket) (after : Words) (targets : List ℕ) (out : Bytes) (at place : ℕ) (output : Bytes) : Type 0 where
+pub record StepLeft (before : Words) (targets-before : List ℕ) (team : ℕ) (slot : Slot.Ticket) (tried : Tried) (left : Slot.Ticket) (after : Words) (targets : List ℕ) (out : Bytes) (at place : ℕ) (output : Bytes) : Type 0 where
   pub others : ElsewhereSame targets-before targets team
   pub whole : length after ≡ length before
-  pub missed : slot .done < quick → (targets ≡ targets-before) × (after ≡ before) × MissLeft targets-before team slot found left out at place output
-  pub made : quick ≤ slot .done → SettledAs (stepBy before (gathered targets-before team slot) team) targets team left after out at place output
+  pub missed : tried .claims ≡ true → (targets ≡ targets-before) × (after ≡ before) × MissLeft targets-before team slot (tried .found) left out at place output
+  pub made : tried .claims ≡ false → SettledAs (stepBy before (gathered targets-before team slot) team) targets team left after out at place output
 
 -- The slot after a frame that may have opened a ticket.
 abbrev pub slotAfter : Opened → Slot.Ticket → Slot.Ticket

@@ -24,6 +24,7 @@ use calls::Aim;
 use frames::EditRead;
 use frames::Reading;
 use frames::Refusal;
+use quick::Tried;
 use replies::Left;
 use tickets::Ticket;
 use tickets::Tickets;
@@ -152,7 +153,7 @@ fn open_view(
 }
 
 // Whether a slot passes: in a table of which that is known it is not tested again.
-pub fn known_well_made(
+fn known_well_made(
     targets: &[u64; Tickets::NUMBERS],
     slot: usize,
     ticket: Ticket,
@@ -172,19 +173,18 @@ fn open(
     targets: &mut [u64; Tickets::NUMBERS],
     ranks: &[u16],
     ticket: Ticket,
-    known: bool,
     frame: &[u8],
     kind: u16,
     team: u16,
     out: &mut [u8],
     at: usize,
 ) -> Opened
-    requires { ⌜ AimKnown (now frame) (Aim.Team kind team) × NoStep (Aim.Team kind team) × (known ≡ true → SlotWellMade (gathered (now targets) team ticket)) × Accepted (now ranks) × RoomAt (now out) at ⌝ }
+    requires { ⌜ AimKnown (now frame) (Aim.Team kind team) × NoStep (Aim.Team kind team) × Accepted (now ranks) × RoomAt (now out) at ⌝ }
     ensures { λ r. ⌜ OpenedAs (openBy (gathered (now (targets .entry)) team ticket) (now (ranks .entry)) (partAfterKind (now (frame .entry))) kind) (now (targets .entry)) (now (targets .exit)) team ticket r (now (out .entry)) at (now (out .exit)) ⌝ }
 {
     let slot = team as usize;
     if ticket.stands() {
-        if known_well_made(targets, slot, ticket, known) {
+        if making::slot_well_made(targets, slot, ticket) {
             let filled = put_refused(out, at, Refusal::STANDING);
             return unopened(filled);
         }
@@ -204,13 +204,12 @@ pub fn other_frame(
     targets: &mut [u64; Tickets::NUMBERS],
     ranks: &[u16],
     ticket: Ticket,
-    known: bool,
     frame: &[u8],
     aim: Aim,
     out: &mut [u8],
     at: usize,
 ) -> Opened
-    requires { ⌜ (length (now book) ≡ wordsInBook) × AimKnown (now frame) aim × NoStep aim × (known ≡ true → SlotWellMade (gathered (now targets) (slotOf aim) ticket)) × Accepted (now ranks) × RoomAt (now out) at ⌝ }
+    requires { ⌜ (length (now book) ≡ wordsInBook) × AimKnown (now frame) aim × NoStep aim × Accepted (now ranks) × RoomAt (now out) at ⌝ }
     ensures { λ r. ⌜ OpenedAs (settledBy (now (book .entry)) (gathered (now (targets .entry)) (slotOf aim) ticket) (now (ranks .entry)) (now (frame .entry)) aim .0) (now (targets .entry)) (now (targets .exit)) (slotOf aim) ticket r (now (out .entry)) at (now (out .exit)) ⌝ }
 {
     match aim {
@@ -222,7 +221,7 @@ pub fn other_frame(
             let filled = put_look(out, at, book, frame);
             unopened(filled)
         }
-        Aim::Team(kind, team) => open(targets, ranks, ticket, known, frame, kind, team, out, at),
+        Aim::Team(kind, team) => open(targets, ranks, ticket, frame, kind, team, out, at),
     }
 }
 
@@ -243,17 +242,16 @@ pub fn other_step(
     targets: &mut [u64; Tickets::NUMBERS],
     ticket: Ticket,
     slot: usize,
-    found: u64,
-    quick: u16,
+    tried: Tried,
     known: bool,
     out: &mut [u8],
     at: usize,
 ) -> Left
-    requires { ⌜ (length (now book) ≡ wordsInBook) × (slot < teamCount) × (ticket .done < quick → MissesIn (now targets) slot ticket (now out) at) × (known ≡ true → SlotWellMade (gathered (now targets) slot ticket)) × RoomAt (now out) at ⌝ }
-    ensures { λ r. ⌜ StepLeft (now (book .entry)) (now (targets .entry)) slot ticket found quick (r .ticket) (now (book .exit)) (now (targets .exit)) (now (out .entry)) at (r .filled) (now (out .exit)) ⌝ }
+    requires { ⌜ (length (now book) ≡ wordsInBook) × (slot < teamCount) × (tried .claims ≡ true → MissesIn (now targets) slot ticket (now out) at) × (known ≡ true → SlotWellMade (gathered (now targets) slot ticket)) × RoomAt (now out) at ⌝ }
+    ensures { λ r. ⌜ StepLeft (now (book .entry)) (now (targets .entry)) slot ticket tried (r .ticket) (now (book .exit)) (now (targets .exit)) (now (out .entry)) at (r .filled) (now (out .exit)) ⌝ }
 {
-    if ticket.done < quick {
-        return claiming::missed(targets, ticket, slot, found, out, at);
+    if tried.claims {
+        return claiming::missed(targets, ticket, slot, tried.found, out, at);
     }
     if !ticket.stands() {
         return refuse(ticket, Refusal::NO_TICKET, out, at);

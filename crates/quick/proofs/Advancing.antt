@@ -25,7 +25,7 @@ use Rattle.replies.specs.Leaving.{LeftBy}
 use Rattle.replies.proofs.Standing.{is-standing, standing-phase, target-fits-there, target-read}
 use Rattle.claiming.specs.Missing.{missedBy}
 use Rattle.quick.specs.declared.Tried.{Tried}
-use Rattle.quick.specs.Quick.{Quick, isPlain, quickIf, quickSwaps, claimsQuick, tried, quickMade, quickTried, advancedBy, AdvancesBy, toldAnswer, QuickByCount, QuickKept, TriedSays, QuickSays, QuickIsStep, QuickMissed}
+use Rattle.quick.specs.Quick.{Quick, isPlain, quickIf, quickSwaps, claimsQuick, untried, quickMade, quickTried, advancedBy, AdvancesBy, toldAnswer, QuickByCount, QuickKept, TriedSays, QuickSays, QuickIsStep, QuickMissed}
 use Rattle.quick.proofs.Swapping.{nextOf, swapBy, claims-plain, phase-quick, next-below, swap-by}
 use Rattle.quick.proofs.Trying.{wentBy, not-tried, is-tried}
 
@@ -202,11 +202,14 @@ module _ (words : Words) (targets : List ℕ) (team : ℕ) (slot : Slot.Ticket) 
         each false by = absurd (false≢true (sym (missed-value (result .found) (next .expected) (sym went-is ∙ missed) .0) ∙ mark-expected targets team slot (may few) by words))
 
   module _ (over : quick ≤ slot .done) where
-    none : _≡_ {A = Tried × Words} (result, after) (tried (claimsQuick slot) 0 false, words)
+    none : _≡_ {A = Tried × Words} (result, after) (untried, words)
     none = is ∙ not-tried words targets team slot quick over
 
     not-went : result .went ≡ true → ⊥
     not-went went = false≢true (sym (ap (λ (p : Tried × Words). p .0 .went) none) ∙ went)
+
+    not-claimed : result .claims ≡ true → ⊥
+    not-claimed claims = false≢true (sym (ap (λ (p : Tried × Words). p .0 .claims) none) ∙ claims)
 
   went-few : result .went ≡ true → slot .done < quick
   went-few went = elim (decLt (slot .done) quick) [
@@ -214,17 +217,25 @@ module _ (words : Words) (targets : List ℕ) (team : ℕ) (slot : Slot.Ticket) 
     | no over ↦ absurd (not-went (omega (arith, over)) went)
   ]
 
+  claims-few : result .claims ≡ true → slot .done < quick
+  claims-few claims = elim (decLt (slot .done) quick) [
+    | yes few ↦ few
+    | no over ↦ absurd (not-claimed (omega (arith, over)) claims)
+  ]
+
   says : TriedSays words targets team slot quick result after
   says = record {
-    claims-is = elim (decLt (slot .done) quick) [
-      | yes few ↦ claims-made few
-      | no over ↦ ap (λ (p : Tried × Words). p .0 .claims) (none (omega (arith, over)))
-    ];
     few-done = went-few;
+    claims-is = λ went. claims-made (went-few went);
     advances = λ went. let few = went-few went in
         advances-by targets team slot (may few) (result .claims) (sym (claims-made few));
-    claiming = λ missed few. phase-quick targets team slot (may few) ∙ ap (λ b. cond b Claiming Putting) (missed-claims few missed);
-    nothing-tried = λ over. ap (λ (p : Tried × Words). p .1) (none over);
+    few-claimed = claims-few;
+    claiming = λ claims. let few = claims-few claims in
+        phase-quick targets team slot (may few) ∙ ap (λ b. cond b Claiming Putting) (sym (claims-made few) ∙ claims);
+    nothing-tried = λ missed puts. elim (decLt (slot .done) quick) [
+      | yes few ↦ absurd (false≢true (sym puts ∙ claims-made few ∙ missed-claims few missed))
+      | no over ↦ ap (λ (p : Tried × Words). p .1) (none (omega (arith, over)))
+    ];
   }
 
   -- By what was tried.
@@ -249,8 +260,9 @@ quick-is-step words targets team slot quick result after may is went =
     ∙ (λ i. (goes words targets team slot quick result after may is went (result .claims) (sym claims) i, after))
 
 pub quick-missed : QuickMissed
-quick-missed words targets team slot quick result after left out at place output may is missed few leaves =
-    let claims = missed-claims words targets team slot quick result after may is few missed in
+quick-missed words targets team slot quick result after left out at place output may is missed tries leaves =
+    let few = claims-few words targets team slot quick result after may is tries in
+    let claims = sym (claims-made words targets team slot quick result after may is few) ∙ tries in
     let next = swapTried words (gathered targets team slot) team in
     let other = missed-value (result .found) (next .expected) (sym (went-is words targets team slot quick result after may is few) ∙ missed) .1 in
     subst (λ step. LeftBy step targets team left after out at place output)

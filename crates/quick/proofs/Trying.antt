@@ -1,7 +1,7 @@
 -- What a swap tried on the fast way comes to, by the tests of the code.
 use Prim.Native.Nat.{ℕ, _≤_, _<_}
 use mathlib.Core.Path.{_≡_, sym, ap, _∙_}
-use mathlib.Core.Bool.{Bool, true, false, cond}
+use mathlib.Core.Bool.{Bool, true, cond}
 use mathlib.Core.List.{List}
 use borrow.Author.Tests.{le-leb, lt-leb, eq-eqb, ne-eqb}
 use lib.Dec.{eqb}
@@ -12,7 +12,7 @@ use Rattle.tickets.specs.Tickets.{Ticket}
 use Rattle.tickets.specs.Steps.{swapTried}
 use Rattle.tickets.specs.Table.{gathered}
 use Rattle.quick.specs.declared.Tried.{Tried}
-use Rattle.quick.specs.Quick.{claimsQuick, tried, quickMade, quickTried}
+use Rattle.quick.specs.Quick.{claimsQuick, tried, untried, quickMade, quickTried}
 
 -- Whether a swap that expected this went through.
 abbrev pub wentBy : ℕ → ℕ → Bool
@@ -26,10 +26,10 @@ went-other found expected other = sym (ap (λ b. cond b true (isHeld expected)) 
 
 module _ (words : Words) (targets : List ℕ) (team : ℕ) (slot : Slot.Ticket) (quick : ℕ) where
   abbrev triedIf : Bool → Tried × Words
-  triedIf none = cond none (tried (claimsQuick slot) 0 false, words) (quickMade words (gathered targets team slot) team (claimsQuick slot))
+  triedIf none = cond none (untried, words) (quickMade words (gathered targets team slot) team (claimsQuick slot))
 
   -- Nothing is tried where too many are done,
-  pub not-tried : quick ≤ slot .done → quickTried words targets team slot quick ≡ (tried (claimsQuick slot) 0 false, words)
+  pub not-tried : quick ≤ slot .done → quickTried words targets team slot quick ≡ (untried, words)
   unfolding quickTried
   not-tried over = ap triedIf (le-leb quick (slot .done) over)
 

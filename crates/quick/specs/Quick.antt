@@ -44,9 +44,12 @@ quickSwaps slot = quickIf (slot .kind) (isPlain slot) (slot .n)
 abbrev pub claimsQuick : Slot.Ticket → Bool
 claimsQuick slot = ltb (slot .claimed) (slot .n)
 
--- What came of a swap that was tried, or not.
+-- What came of a swap that was tried, and of none.
 abbrev pub tried : Bool → ℕ → Bool → Tried
 tried claims found went = record { claims = claims; found = found; went = went }
+
+abbrev pub untried : Tried
+untried = tried false 0 false
 
 -- A claim goes through where the word is as quoted; a put does in any case: it expects a mark, and "either way it counts as done".
 abbrev pub quickMade : Words → Ticket → ℕ → Bool → Tried × Words
@@ -59,7 +62,7 @@ quickMade words ticket team claims =
 unfoldable pub quickTried : Words → List ℕ → ℕ → Slot.Ticket → ℕ → Tried × Words
 quickTried words targets team slot quick =
     cond (leb quick (slot .done))
-    (tried (claimsQuick slot) 0 false, words)
+    (untried, words)
     (quickMade words (gathered targets team slot) team (claimsQuick slot))
 
 -- The ticket after a claim or a put that went through.
@@ -95,13 +98,15 @@ QuickKept =
     → Quick targets team slot
     → quickSwaps (advancedBy (claimsQuick slot) slot) ≡ quickSwaps slot
 
--- What a swap tried on the fast way says: where it went through the ticket may be advanced; where it missed it was a claim.
+-- What a swap tried on the fast way says: where it went through the ticket may be advanced; where it missed it was a claim;
+-- and else none was tried.
 pub record TriedSays (words : Words) (targets : List ℕ) (team : ℕ) (slot : Slot.Ticket) (quick : ℕ) (result : Tried) (after : Words) : Type 0 where
-  pub claims-is : result .claims ≡ claimsQuick slot
   pub few-done : result .went ≡ true → slot .done < quick
+  pub claims-is : result .went ≡ true → result .claims ≡ claimsQuick slot
   pub advances : result .went ≡ true → AdvancesBy (result .claims) slot
-  pub claiming : result .went ≡ false → slot .done < quick → phaseOf slot ≡ Claiming
-  pub nothing-tried : quick ≤ slot .done → after ≡ words
+  pub few-claimed : result .claims ≡ true → slot .done < quick
+  pub claiming : result .claims ≡ true → phaseOf slot ≡ Claiming
+  pub nothing-tried : result .went ≡ false → result .claims ≡ false → after ≡ words
 
 abbrev pub QuickSays : Type 0
 QuickSays =
@@ -120,13 +125,13 @@ QuickIsStep =
     → let next = advancedBy (result .claims) slot in
     _≡_ {A = Stepped × Words} (stepOf words (gathered targets team slot) team) (stepped (gathered targets team next) (toldAnswer (result .claims) next), after)
 
--- Statement: where it was tried and missed, the step is what `missed` leaves.
+-- Statement: where a claim was tried and missed, the step is what `missed` leaves.
 abbrev pub QuickMissed : Type 0
 QuickMissed =
     (words : Words) (targets : List ℕ) (team : ℕ) (slot : Slot.Ticket) (quick : ℕ) (result : Tried) (after : Words) (left : Slot.Ticket) (out : Bytes) (at place : ℕ) (output : Bytes)
     → (slot .done < quick → Quick targets team slot)
     → _≡_ {A = Tried × Words} (result, after) (quickTried words targets team slot quick)
     → result .went ≡ false
-    → slot .done < quick
+    → result .claims ≡ true
     → MissLeft targets team slot (result .found) left out at place output
     → LeftBy (stepOf words (gathered targets team slot) team) targets team left after out at place output

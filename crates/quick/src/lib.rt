@@ -8,7 +8,7 @@ ghost use Rattle.words.specs.Words.{Words, wordsInBook, teamCount};
 ghost use Rattle.tickets.specs.Steps.{swapTried};
 ghost use Rattle.tickets.specs.Table.{gathered};
 ghost use Rattle.replies.specs.Leaving.{RoomAt, Answered};
-ghost use Rattle.quick.specs.Quick.{Quick, isPlain, quickSwaps, quickTried, advancedBy, AdvancesBy, toldAnswer};
+ghost use Rattle.quick.specs.Quick.{Quick, isPlain, quickSwaps, untried, quickTried, advancedBy, AdvancesBy, toldAnswer};
 use encoder::AnswerKind;
 use frames::Frame;
 use frames::numbers::Bits;
@@ -18,10 +18,24 @@ use tickets::Ticket;
 use tickets::Tickets;
 
 // What came of the next swap of an edit on the fast way: whether it was a claim, what it found, and whether it went through.
+// One that did not was a claim that missed, or none was tried.
 pub struct Tried {
     pub claims: bool,
     pub found: u64,
     pub went: bool,
+}
+
+impl Tried {
+    // No swap was tried.
+    pub fn none() -> Tried
+        ensures { λ r. ⌜ r ≡ untried ⌝ }
+    {
+        Tried {
+            claims: false,
+            found: 0,
+            went: false,
+        }
+    }
 }
 
 fn chosen_count(test: bool, yes: u16, no: u16) -> u16
@@ -94,14 +108,10 @@ pub fn try_quick(
     requires { ⌜ (length (now book) ≡ wordsInBook) × (slot < teamCount) × (ticket .done < quick → Quick (now targets) slot ticket) ⌝ }
     ensures { λ r. ⌜ (r, now (book .exit)) ≡ quickTried (now (book .entry)) (now (targets .entry)) slot ticket quick ⌝ }
 {
-    let claims = ticket.claimed < ticket.n;
     if quick <= ticket.done {
-        return Tried {
-            claims: claims,
-            found: 0,
-            went: false,
-        };
+        return Tried::none();
     }
+    let claims = ticket.claimed < ticket.n;
     let swap = swap_at(targets, slot, ticket);
     let at = swap.word as usize;
     let report = words::conditional_swap(book, at, swap.expected, swap.desired);

@@ -13,11 +13,11 @@ use Rattle.handlers.proofs.open.Reads as reads
 use Rattle.handlers.proofs.open.Lts as lts
 use Rattle.frames.proofs.head.is_edit_kind.Reads as is-edit-kind-reads
 use Rattle.frames.proofs.head.part_after_kind.Reads as part-after-kind-reads
-use Rattle.handlers.proofs.known_well_made.Reads as known-well-made-reads
 use Rattle.handlers.proofs.open_edit.Reads as open-edit-reads
 use Rattle.handlers.proofs.open_view.Reads as open-view-reads
 use Rattle.handlers.proofs.put_refused.Reads as put-refused-reads
 use Rattle.handlers.proofs.unopened.Reads as unopened-reads
+use Rattle.making.proofs.slot_well_made.Reads as slot-well-made-reads
 use Rattle.tickets.proofs.Ticket.stands.Reads as stands-reads
 
 -- src/lib.rt:186:8
@@ -25,8 +25,8 @@ stands-requires : tie.Need-stands-requires
 stands-requires c κs = search needs
 
 -- src/lib.rt:187:12
-known-well-made-requires : tie.Need-known-well-made-requires
-known-well-made-requires c κs = search needs
+slot-well-made-requires : tie.Need-slot-well-made-requires
+slot-well-made-requires c κs = search needs
 
 -- src/lib.rt:188:17
 put-refused-requires : tie.Need-put-refused-requires
@@ -46,7 +46,7 @@ returns c =
     let start = c .before .before .before .before .before .before .before .before .before .before .before .before .before in
     let targets = now (start .args .targets) in
     let stands = sym (c .before .before .before .before .before .before .before .before .before .stands .ensures) ∙ c .before .before .before .before .before .before .before .before .if1 .taken in
-    let made = passes-made targets (start .args .team) (start .args .ticket) true stands (sym (c .before .before .before .before .before .before .known-well-made .ensures) ∙ c .before .before .before .before .before .if2 .taken) in
+    let made = passes-made targets (start .args .team) (start .args .ticket) true stands (sym (c .before .before .before .before .before .before .slot-well-made .ensures) ∙ c .before .before .before .before .before .if2 .taken) in
     left-unopened _ targets (start .args .team) (start .args .ticket) (c .unopened .result) _ _ _ _ _ (c .unopened .ensures)
     (opens-over (gathered targets (start .args .team) (start .args .ticket)) (now (start .args .ranks)) (partAfterKind (now (start .args .frame))) (start .args .kind) (stands-has targets (start .args .team) (start .args .ticket) stands) made)
     (c .before .before .before .put-refused .ensures)
@@ -69,7 +69,7 @@ returns-2 c =
     let start = c .before .before .before .before .before .before .before .before .before .before .before .before .before in
     let targets = now (start .args .targets) in
     let stands = sym (c .before .before .before .before .before .before .before .before .before .stands .ensures) ∙ c .before .before .before .before .before .before .before .before .if1 .taken in
-    let made = passes-made targets (start .args .team) (start .args .ticket) false stands (sym (c .before .before .before .before .before .before .known-well-made .ensures) ∙ c .before .before .before .before .before .if2 .left) in
+    let made = passes-made targets (start .args .team) (start .args .ticket) false stands (sym (c .before .before .before .before .before .before .slot-well-made .ensures) ∙ c .before .before .before .before .before .if2 .left) in
     left-unopened _ targets (start .args .team) (start .args .ticket) (c .unopened2 .result) _ _ _ _ _ (c .unopened2 .ensures)
     (opens-badly (gathered targets (start .args .team) (start .args .ticket)) (now (start .args .ranks)) (partAfterKind (now (start .args .frame))) (start .args .kind) (stands-has targets (start .args .team) (start .args .ticket) stands) made)
     (c .before .before .before .put-refused2 .ensures)
@@ -86,7 +86,7 @@ is-edit-kind-requires c κs = search needs
 open-edit-requires : tie.Need-open-edit-requires
 open-edit-requires c κs =
     let start = c .before .before .before .before .before .before .before .before .before .before in
-    (start .pre .0 .2, edit-fields (now (start .args .frame)) (start .args .kind) _ (start .pre .0 .0) (sym (c .before .before .before .is-edit-kind .ensures) ∙ c .before .before .if3 .taken) (c .before .before .before .before .part-after-kind .ensures), start .pre .3, start .pre .4)
+    (start .pre .0 .2, edit-fields (now (start .args .frame)) (start .args .kind) _ (start .pre .0 .0) (sym (c .before .before .before .is-edit-kind .ensures) ∙ c .before .before .if3 .taken) (c .before .before .before .before .part-after-kind .ensures), start .pre .2, start .pre .3)
 
 -- src/lib.rt:196:9
 same-length-3 : tie.Need-same-length-3
@@ -109,7 +109,7 @@ open-view-requires : tie.Need-open-view-requires
 open-view-requires c κs =
     let start = c .before .before .before .before .before .before .before .before .before .before in
     let view = view-kind (now (start .args .frame)) (start .args .kind) (start .args .team) (start .pre .0) (start .pre .1) (sym (c .before .before .before .is-edit-kind .ensures) ∙ c .before .before .if3 .left) in
-    (start .pre .0 .2, view-fields (now (start .args .frame)) (start .args .kind) _ (start .pre .0 .0) view (c .before .before .before .before .part-after-kind .ensures), start .pre .3, start .pre .4)
+    (start .pre .0 .2, view-fields (now (start .args .frame)) (start .args .kind) _ (start .pre .0 .0) view (c .before .before .before .before .part-after-kind .ensures), start .pre .2, start .pre .3)
 
 -- src/lib.rt:171:1
 same-length-4 : tie.Need-same-length-4
@@ -133,7 +133,7 @@ open-spec =
     tie.close
     (tie.spec
     stands-requires
-    known-well-made-requires
+    slot-well-made-requires
     put-refused-requires
     unopened-requires
     same-length

@@ -1,11 +1,9 @@
 -- `handlers::other_frame` meets its contract: a refusal, a look or a frame that asks for a ticket.
-use mathlib.Core.Path.{_≡_, sym, ap, subst, _∙_}
-use mathlib.Core.Bool.{true}
+use mathlib.Core.Path.{sym, ap, subst}
 use denote.Ref.{now}
 use Rattle.words.specs.Words.{Words}
-use Rattle.tickets.specs.Tickets.{SlotWellMade}
 use Rattle.tickets.specs.Table.{gathered}
-use Rattle.calls.specs.Way.{Settled, AimKnown, slotOf}
+use Rattle.calls.specs.Way.{Settled, AimKnown}
 use Rattle.handlers.specs.Settling.{NoStep}
 use Rattle.handlers.proofs.Cases.{left-unopened, refused-by, look-by, open-by, settled-so, aimed-so}
 use borrow.Author.Needs.{needs}
@@ -38,7 +36,7 @@ enum-told c = search needs
 put-look-requires : tie.Need-put-look-requires
 put-look-requires c κs =
     let start = c .before .before .before .before .before .before .before in
-    (start .pre .5, start .pre .0, subst (AimKnown (now (start .args .frame))) (c .before .enum-told .given .1) (start .pre .1))
+    (start .pre .4, start .pre .0, subst (AimKnown (now (start .args .frame))) (c .before .enum-told .given .1) (start .pre .1))
 
 -- src/lib.rt:223:13
 unopened-requires-2 : tie.Need-unopened-requires-2
@@ -53,7 +51,7 @@ open-requires : tie.Need-open-requires
 open-requires c κs =
     let start = c .before .before .before .before .before .before .before .before .before in
     let is = c .before .before .before .aim2 .given .1 in
-    (subst (AimKnown (now (start .args .frame))) is (start .pre .1), subst NoStep is (start .pre .2), subst (λ a. start .args .known ≡ true → SlotWellMade (gathered (now (start .args .targets)) (slotOf a) (start .args .ticket))) is (start .pre .3), start .pre .4, start .pre .5)
+    (subst (AimKnown (now (start .args .frame))) is (start .pre .1), subst NoStep is (start .pre .2), start .pre .3, start .pre .4)
 
 -- src/lib.rt:202:1
 same-length : tie.Need-same-length

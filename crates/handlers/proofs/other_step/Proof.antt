@@ -1,8 +1,6 @@
 -- `handlers::other_step` meets its contract: a claim that missed, refusal 9 or 7, or the step.
-use native.Mathlib.Omega.{arith}
-use Prim.Native.Nat.{ℕ, _<_, _≤_}
 use mathlib.Core.Path.{refl, sym, _∙_}
-use mathlib.Core.Bool.{true, false}
+use mathlib.Core.Bool.{true, false, false≢true}
 use borrow.Author.Tests.{not-true, not-false}
 use denote.Ref.{now}
 use Rattle.tickets.specs.Table.{gathered}
@@ -18,12 +16,9 @@ use Rattle.claiming.proofs.missed.Reads as missed-reads
 use Rattle.steps.proofs.step.Reads as step-reads
 use Rattle.tickets.proofs.Ticket.stands.Reads as stands-reads
 
-never : {a b : ℕ} → a < b → b ≤ a → ⊥
-never less most = omega (arith, less, most)
-
 -- src/lib.rt:256:9
 missed-requires : tie.Need-missed-requires
-missed-requires c κs = c .before .before .before .before .before .before .pre .2 (c .before .before .if1 .taken)
+missed-requires c κs = c .before .before .before .before .before .pre .2 (c .before .before .if1 .taken)
 
 -- src/lib.rt:256:9
 same-length : tie.Need-same-length
@@ -32,13 +27,13 @@ same-length c = search needs
 -- src/lib.rt:256:9
 returns : tie.Need-returns
 returns c =
-    let start = c .before .before .before .before .before .before .before .before .before in
+    let start = c .before .before .before .before .before .before .before .before in
     let targets = now (start .args .targets) in
     record {
       others = same-there targets (start .args .slot);
       whole = refl;
-      missed = λ few. (refl, refl, c .before .before .missed .ensures);
-      made = λ none. absurd (never (c .before .before .before .before .before .if1 .taken) none);
+      missed = λ claims. (refl, refl, c .before .before .missed .ensures);
+      made = λ none. absurd (false≢true (sym none ∙ c .before .before .before .before .before .if1 .taken));
     }
 
 -- src/lib.rt:258:9
@@ -56,13 +51,13 @@ same-length-2 c = search needs
 -- src/lib.rt:259:9
 returns-2 : tie.Need-returns-2
 returns-2 c =
-    let start = c .before .before .before .before .before .before .before .before .before .before in
+    let start = c .before .before .before .before .before .before .before .before .before in
     let targets = now (start .args .targets) in
     let book = now (start .args .book) in
     record {
       others = same-there targets (start .args .slot);
       whole = refl;
-      missed = λ few. absurd (never few (c .before .before .before .before .before .before .if1 .left));
+      missed = λ claims. absurd (false≢true (sym (c .before .before .before .before .before .before .if1 .left) ∙ claims));
       made = λ none. step-refused book targets (start .args .slot) (start .args .ticket) _ 9 _ _ _ _ (c .before .before .refuse .ensures .0) (steps-none book (gathered targets (start .args .slot) (start .args .ticket)) (start .args .slot) (stands-not targets (start .args .slot) (start .args .ticket) (sym (c .before .before .before .before .before .stands .ensures) ∙ not-true _ (c .before .before .before .before .if2 .taken)))) (c .before .before .refuse .ensures .1);
     }
 
@@ -81,20 +76,20 @@ same-length-3 c = search needs
 -- src/lib.rt:262:9
 returns-3 : tie.Need-returns-3
 returns-3 c =
-    let start = c .before .before .before .before .before .before .before .before .before .before .before .before .before in
+    let start = c .before .before .before .before .before .before .before .before .before .before .before .before in
     let targets = now (start .args .targets) in
     let book = now (start .args .book) in
     record {
       others = same-there targets (start .args .slot);
       whole = refl;
-      missed = λ few. absurd (never few (c .before .before .before .before .before .before .before .before .before .if1 .left));
+      missed = λ claims. absurd (false≢true (sym (c .before .before .before .before .before .before .before .before .before .if1 .left) ∙ claims));
       made = λ none. step-refused book targets (start .args .slot) (start .args .ticket) _ 7 _ _ _ _ (c .before .before .refuse2 .ensures .0) (let stands = sym (c .before .before .before .before .before .before .before .before .stands .ensures) ∙ not-false _ (c .before .before .before .before .before .before .before .if2 .left) in steps-badly book (gathered targets (start .args .slot) (start .args .ticket)) (start .args .slot) (stands-has targets (start .args .slot) (start .args .ticket) stands) (passes-made targets (start .args .slot) (start .args .ticket) false stands (sym (c .before .before .before .before .before .known-well-made .ensures) ∙ not-true _ (c .before .before .before .before .if3 .taken)))) (c .before .before .refuse2 .ensures .1);
     }
 
 -- src/lib.rt:264:5
 step-requires : tie.Need-step-requires
 step-requires c κs =
-    let start = c .before .before .before .before .before .before .before .before .before .before .before .before in
+    let start = c .before .before .before .before .before .before .before .before .before .before .before in
     let targets = now (start .args .targets) in
     let stands = sym (c .before .before .before .before .before .before .before .stands .ensures) ∙ not-false _ (c .before .before .before .before .before .before .if2 .left) in
     record {
@@ -116,7 +111,7 @@ same-length-5 c = search needs
 -- src/lib.rt:241:1
 returns-4 : tie.Need-returns-4
 returns-4 c =
-    let start = c .before .before .before .before .before .before .before .before .before .before .before .before .before .before .before .before .before in
+    let start = c .before .before .before .before .before .before .before .before .before .before .before .before .before .before .before .before in
     let targets = now (start .args .targets) in
     let book = now (start .args .book) in
     let stands = sym (c .before .before .before .before .before .before .before .before .before .before .before .before .stands .ensures) ∙ not-false _ (c .before .before .before .before .before .before .before .before .before .before .before .if2 .left) in
@@ -125,7 +120,7 @@ returns-4 c =
     record {
       others = step .ensures .1;
       whole = search needs;
-      missed = λ few. absurd (never few (c .before .before .before .before .before .before .before .before .before .before .before .before .before .if1 .left));
+      missed = λ claims. absurd (false≢true (sym (c .before .before .before .before .before .before .before .before .before .before .before .before .before .if1 .left) ∙ claims));
       made = λ none. step-left book targets _ (start .args .slot) (start .args .ticket) _ _ _ _ _ _ (stands-has targets (start .args .slot) (start .args .ticket) stands) made (step .ensures .0);
     }
 

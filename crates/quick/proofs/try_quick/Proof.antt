@@ -7,15 +7,18 @@ use borrow.Author.Needs.{needs}
 use Rattle.quick.proofs.try_quick.Statement.{statement}
 use Rattle.quick.proofs.try_quick.Tie as tie
 
+none-requires : tie.Need-none-requires
+none-requires c κs = search needs
+
 returns : tie.Need-returns
 returns c =
     let args = c .before .before .before .before .args in
-    sym (not-tried (now (args .book)) (now (args .targets)) (args .slot) (args .ticket) (args .quick) (c .if1 .taken))
+    (λ i. (c .none .ensures i, now (args .book))) ∙ sym (not-tried (now (args .book)) (now (args .targets)) (args .slot) (args .ticket) (args .quick) (c .before .if1 .taken))
 
 swap-at-requires : tie.Need-swap-at-requires
 swap-at-requires c κs =
     let start = c .before .before .before .before in
-    (start .pre .1, start .pre .2 (omega (arith, c .if1 .left)))
+    (start .pre .1, start .pre .2 (omega (arith, c .before .if1 .left)))
 
 cast-at : tie.Need-cast-at
 cast-at c = search needs
@@ -30,7 +33,7 @@ returns-2 : tie.Need-returns-2
 returns-2 c =
     let report = c .before .before .before .before .conditional-swap in
     let swap = c .before .before .before .before .before .before .before .swap-at in
-    let few = c .before .before .before .before .before .before .before .before .if1 .left in
+    let few = c .before .before .before .before .before .before .before .before .before .if1 .left in
     let args = c .before .before .before .before .before .before .before .before .before .before .before .before .args in
     let words = now (args .book) in
     tried-by words (now (args .targets)) (args .slot) (args .ticket) (args .quick) (swap .result) (report .result .found) (report .last .0) _
@@ -46,7 +49,7 @@ returns-3 : tie.Need-returns-3
 returns-3 c =
     let report = c .before .before .before .before .before .conditional-swap in
     let swap = c .before .before .before .before .before .before .before .before .swap-at in
-    let few = c .before .before .before .before .before .before .before .before .before .if1 .left in
+    let few = c .before .before .before .before .before .before .before .before .before .before .if1 .left in
     let args = c .before .before .before .before .before .before .before .before .before .before .before .before .before .args in
     let words = now (args .book) in
     tried-by words (now (args .targets)) (args .slot) (args .ticket) (args .quick) (swap .result) (report .result .found) (report .last .0) _
@@ -56,6 +59,7 @@ pub try-quick-spec : {M : Type 1} → statement M
 try-quick-spec =
     tie.close
     (tie.spec
+    none-requires
     returns
     swap-at-requires
     cast-at
