@@ -5,7 +5,7 @@
 //! each), then so many times a word (16 bits) and its value (64); words not given
 //! are 0. Each gets a line: `yes`, `no`, `refused 1` or `refused 12`. The scratch is a
 //! part of a buffer full of other bytes; the program writes ` spoiled` behind a line
-//! if the check wrote elsewhere than into the first 168 bytes of that part.
+//! if the check wrote elsewhere than into the first 126 bytes of that part.
 
 use crate::demand3::{Leg, Plain};
 use crate::layout::*;
@@ -14,11 +14,22 @@ use crate::streams::{Author, Prng};
 use crate::wrong::{self, Fault};
 use std::collections::{BTreeMap, BTreeSet};
 
-/// "The check shall give the same yes or no from 168 bytes, a bit for each leg".
-const SCRATCH: i64 = 168;
+/// "and the check's scratch to 126 bytes": still a bit for each leg.
+const SCRATCH: i64 = 126;
+
+/// How legs lie in a book: the last one, the link's word of each, which place and measure
+/// follow, and the words of a plain book.
+pub struct Rows {
+    pub last: i64,
+    pub link: fn(i64) -> i64,
+    pub word: fn(&Plain, i64) -> i64,
+}
+
+/// Four words a leg.
+const ROWS: Rows = Rows { last: LEGS, link: link_word, word: Plain::word };
 
 /// The plain book that words tell by their links, if they tell one at all.
-fn told(book: &[Word], fault: Option<Fault>) -> Option<Plain> {
+fn told(book: &[Word], rows: &Rows, fault: Option<Fault>) -> Option<Plain> {
     let value = |word: i64| match book[word as usize] {
         Word::Value(value) => Some(value),
         Word::Marked(_) => None,
@@ -27,32 +38,43 @@ fn told(book: &[Word], fault: Option<Fault>) -> Option<Plain> {
     for p in 0..PASSAGES {
         let mut number = value(newest_word(p))?;
         while number != 0 {
-            if !(1..=LEGS).contains(&number) || plain.count(p) > LEGS {
+            if !(1..=rows.last).contains(&number) || plain.count(p) > rows.last {
                 return None;
             }
-            let (place, measure) = (value(place_word(number))?, value(measure_word(number))?);
+            let link = (rows.link)(number);
+            let (place, measure) = (value(link + 1)?, value(link + 2)?);
             let leg = wrong::read(fault, place as u64, measure as u64)?;
             let Reading { from, to, measure, .. } = leg;
             plain.lists[p as usize].push(Leg { number, from, to, measure });
-            number = value(link_word(number))?;
+            number = value(link)?;
         }
     }
     Some(plain)
 }
 
-/// "yes exactly when the words are those of some plain book": the one that they
-/// tell has no number twice, and its words are these.
-pub fn sound(book: &[Word], fault: Option<Fault>) -> bool {
-    let book = &wrong::book(fault, book)[..];
-    let Some(plain) = told(book, fault) else { return false };
+/// The plain book whose words these are, if there is one: the one that they tell has no
+/// number twice, and its words are these.
+pub fn plain_in(book: &[Word], rows: &Rows, fault: Option<Fault>) -> Option<Plain> {
+    let book = &wrong::book(fault, book, rows)[..];
+    let plain = told(book, rows, fault)?;
     let legs: Vec<&Leg> = plain.lists.iter().flatten().collect();
     let numbers: BTreeSet<i64> = legs.iter().map(|leg| leg.number).collect();
-    numbers.len() == legs.len()
-        && legs.iter().all(|leg| leg.sound())
-        && (0..WORDS).all(|word| book[word as usize] == Word::Value(plain.word(word)))
+    let own = |word: i64| {
+        let (right, found) = ((rows.word)(&plain, word), book[word as usize]);
+        found == wrong::wanted(fault, &plain, word, right, found)
+    };
+    let sound = numbers.len() == legs.len()
+        && legs.iter().all(|leg| leg.sound_up_to(rows.last))
+        && (0..WORDS).all(own);
+    sound.then_some(plain)
 }
 
-/// "Checks: 12, scratch too short, after 1." "Refusal 12 applies below 168 bytes."
+/// "yes exactly when the words are those of some plain book"
+pub fn sound(book: &[Word], fault: Option<Fault>) -> bool {
+    plain_in(book, &ROWS, fault).is_some()
+}
+
+/// "Checks: 12, scratch too short, after 1." Below 126 bytes it applies now.
 fn answer(book: &[Word], scratch: i64, fault: Option<Fault>) -> &'static str {
     match (book.len() as i64, scratch) {
         (length, _) if length != WORDS => "refused 1",
@@ -62,7 +84,7 @@ fn answer(book: &[Word], scratch: i64, fault: Option<Fault>) -> &'static str {
     }
 }
 
-type Words = BTreeMap<i64, u64>;
+pub type Words = BTreeMap<i64, u64>;
 
 struct Case {
     scratch: i64,
@@ -128,6 +150,8 @@ fn chain(p: i64, numbers: &[i64]) -> Words {
         words.insert(link_word(*number), older as u64);
         words.insert(place_word(*number), place(p, *number, number + 1) as u64);
         words.insert(measure_word(*number), measure.written() as u64);
+        let newer = index.checked_sub(1).map_or(0, |before| numbers[before]);
+        words.insert(newer_word(*number), newer as u64);
     }
     words
 }
@@ -140,28 +164,31 @@ fn with(words: &Words, changes: &[(i64, u64)]) -> Case {
 
 /// One fault for each sentence of the request.
 fn faults() -> Vec<Case> {
-    let three = chain(4, &[7, 1, 1_344]);
+    let three = chain(4, &[7, 1, LEGS]);
     let mut two = three.clone();
     two.extend(chain(9, &[20, 21]));
     let mut cases: Vec<Case> = [Words::new(), three.clone(), two.clone()].map(Case::of).into();
-    for (scratch, length) in [(0, 0), (167, 4_095), (2_000, 4_095), (2_000, 4_097)] {
+    for (scratch, length) in [(0, 0), (SCRATCH - 1, 4_095), (2_000, 4_095), (2_000, 4_097)] {
         cases.push(Case { scratch, length, words: Words::new() });
     }
     let mark = 1 << 63;
     cases.extend([
         with(&two, &[(count_word(4), 2)]),
         with(&two, &[(count_word(4), 4)]),
-        with(&two, &[(count_word(4), 1_345)]),
+        with(&two, &[(count_word(4), 1 + LEGS as u64)]),
         with(&two, &[(count_word(31), u64::MAX)]),
         with(&two, &[(count_word(5), 1)]),
         with(&two, &[(newest_word(5), 30)]),
         with(&two, &[(newest_word(4), 0)]),
-        with(&two, &[(newest_word(4), 1_345)]),
+        with(&two, &[(newest_word(4), 1 + LEGS as u64)]),
+        with(&two, &[(newest_word(4), 1_344)]),
         with(&two, &[(newest_word(4), 65_536 + 7)]),
         // A circle, a chain into another passage, one that two passages share.
-        with(&two, &[(link_word(1_344), 7)]),
-        with(&two, &[(link_word(1_344), 7), (count_word(4), 1_344)]),
-        with(&two, &[(link_word(1_344), 20), (count_word(4), 5)]),
+        with(&two, &[(link_word(LEGS), 7)]),
+        with(&two, &[(link_word(LEGS), 7), (newer_word(7), LEGS as u64)]),
+        with(&two, &[(link_word(LEGS), 7), (count_word(4), LEGS as u64)]),
+        with(&two, &[(link_word(LEGS), 20), (count_word(4), 5)]),
+        with(&two, &[(link_word(LEGS), 20), (count_word(4), 5), (newer_word(20), LEGS as u64)]),
         with(&two, &[(newest_word(9), 7), (count_word(9), 3)]),
         with(&three, &[(newest_word(5), 7), (count_word(5), 3)]),
         with(&two, &[(link_word(1), mark)]),
@@ -171,8 +198,8 @@ fn faults() -> Vec<Case> {
         with(&two, &[(newest_word(0), mark)]),
         // Unused legs that are not zero.
         with(&two, &[(link_word(2), 1)]),
-        with(&two, &[(place_word(1_343), 1)]),
-        with(&two, &[(measure_word(1_343), 1 << 62)]),
+        with(&two, &[(place_word(LEGS - 1), 1)]),
+        with(&two, &[(measure_word(LEGS - 1), 1 << 62)]),
         // A place of another passage, from equal to to, a measure out of range.
         with(&two, &[(place_word(7), place(9, 7, 8) as u64)]),
         with(&two, &[(place_word(7), place(4, 8, 8) as u64)]),
@@ -184,18 +211,42 @@ fn faults() -> Vec<Case> {
         with(&two, &[(place_word(7), place(4, 65_535, 0) as u64)]),
     ]);
     cases.extend(shafts(&two));
+    cases.extend(newer_words());
     let all: Vec<i64> = (1..=LEGS).rev().collect();
     cases.push(Case::of(chain(0, &all)));
     cases.push(with(&chain(0, &all), &[(link_word(1), LEGS as u64)]));
+    cases.push(with(&chain(0, &all), &[(newer_word(LEGS), 1)]));
     // The sum of the counts is right in both, each of them in the first alone.
     let dealt = over_passages();
+    let share = dealt[&count_word(0)];
     cases.push(Case::of(dealt.clone()));
-    cases.push(with(&dealt, &[(count_word(0), 43), (count_word(1), 41)]));
+    cases.push(with(&dealt, &[(count_word(0), share - 1), (count_word(1), share + 1)]));
     cases.extend([Words::new(), two].iter().flat_map(scratches));
     cases
 }
 
-/// All legs, dealt out to all passages, 42 to each.
+/// "the next newer leg, 0 for the newest", and "unused legs zero": each newer word of a book
+/// changed, at both ends of a chain and amid, of a leg alone and of legs that are in no list.
+fn newer_words() -> Vec<Case> {
+    let mut words = chain(4, &[7, 1, LEGS, 30]);
+    words.extend(chain(9, &[20, 21]));
+    words.extend(chain(31, &[500]));
+    let newest = [0, 1, 7, 20, 21, 30, 500, 2, LEGS, 1 + LEGS, 65_536, 65_543].map(|r| r as u64);
+    let marks = [1 << 63, (1 << 63) + 15, u64::MAX];
+    let mut cases = vec![Case::of(words.clone())];
+    for leg in [7, 1, LEGS, 30, 20, 21, 500, 2, LEGS - 1] {
+        let own = words.get(&newer_word(leg)).copied().unwrap_or(0);
+        let values = newest.into_iter().chain(marks).filter(|value| *value != own);
+        cases.extend(values.map(|value| with(&words, &[(newer_word(leg), value)])));
+    }
+    // Newer words that agree with each other, and with no links.
+    let turned = [(newer_word(7), 1), (newer_word(1), LEGS as u64), (newer_word(LEGS), 30)];
+    cases.push(with(&words, &[&turned[..], &[(newer_word(30), 0)]].concat()));
+    cases.push(with(&words, &[(newer_word(1), 20), (newer_word(21), 7)]));
+    cases
+}
+
+/// All legs, dealt out to all passages.
 fn over_passages() -> Words {
     let legs = |p: i64| (1..=LEGS).filter(|r| r % PASSAGES == p).collect::<Vec<i64>>();
     (0..PASSAGES).flat_map(|p| chain(p, &legs(p))).collect()
@@ -204,8 +255,8 @@ fn over_passages() -> Words {
 /// Scratches too short, just enough, and more than enough, for a book that is sound
 /// and for one that isn't.
 fn scratches(words: &Words) -> Vec<Case> {
-    let lengths = [0, 1, 167, 168, 169, 1_343, 1_344, 2_000];
-    let unsound = with(words, &[(count_word(31), 1_344)]).words;
+    let lengths = [0, 1, 125, 126, 127, 167, 168, 1_007, 1_008, 2_000];
+    let unsound = with(words, &[(count_word(31), LEGS as u64)]).words;
     let of = |words: &Words, scratch: i64| Case { scratch, ..Case::of(words.clone()) };
     lengths.iter().flat_map(|scratch| [of(words, *scratch), of(&unsound, *scratch)]).collect()
 }
@@ -224,7 +275,7 @@ fn shafts(words: &Words) -> Vec<Case> {
 }
 
 /// A word of a book changed as a bad disk might change it.
-fn damaged(rng: &mut Prng, words: &Words) -> Case {
+pub fn damaged(rng: &mut Prng, words: &Words) -> Words {
     let mut damaged = words.clone();
     let places: Vec<i64> =
         words.keys().copied().chain([newest_word(rng.below(PASSAGES))]).collect();
@@ -238,7 +289,7 @@ fn damaged(rng: &mut Prng, words: &Words) -> Case {
         _ => words.get(&other).copied().unwrap_or(0),
     };
     damaged.insert(word, changed);
-    Case::of(damaged)
+    damaged
 }
 
 /// The cases stored: each fault, and books that streams leave, whole and damaged.
@@ -252,7 +303,7 @@ pub fn stored() -> Vec<u8> {
             author.finish_all(Order::Rising);
             let words = words_of(author.book());
             let mut rng = Prng::new(seed + author.frames as u64);
-            cases.extend((0..6).map(|_| damaged(&mut rng, &words)));
+            cases.extend((0..6).map(|_| Case::of(damaged(&mut rng, &words))));
             cases.push(Case::of(words));
         }
     }

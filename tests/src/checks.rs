@@ -54,7 +54,7 @@ fn the_twelve_bench_examples() {
     let leg = Measure { distance: 5_000, compass: 9_000, clino: -150 };
     assert_eq!(leg.written(), 76_022_100_792_200, "1");
     assert_eq!(place(0, 1, 2), 8_388_673, "2");
-    assert_eq!(measure_word(1_344), 4_095, "3");
+    assert_eq!(newer_word(1_008), 4_095, "3, which \"becomes leg 1,008\"");
     let lowest = Measure { clino: -9_000, ..leg };
     assert_eq!(lowest.written(), 5_000 + 131_072 * 9_000, "4");
     assert_eq!(fresh_answer(&[(Clino, 9_001)]), Answer::Refused(10), "5");
@@ -267,7 +267,7 @@ fn one_shaft_by_any_compass() {
             assert_eq!(settled(&mut desk, correct), Answer::Granted(4));
             assert_eq!(asked(&mut desk, Request::look(66)), Answer::Value(word));
             let strike = steep_edit(Kind::Strike, quoted, 0, clino);
-            assert_eq!(settled(&mut desk, strike), Answer::Granted(10));
+            assert_eq!(settled(&mut desk, strike), Answer::Granted(12));
             assert_eq!(desk, Desk::fresh());
         }
     }
@@ -459,13 +459,118 @@ fn other_readers_of_plumb_legs_are_told_by_readings_and_books() {
     }
 }
 
-/// "Refusal 12 applies below 168 bytes."
+/// "and the check's scratch to 126 bytes"
 #[test]
-fn other_scratches_are_told_by_books() {
+fn other_scratches_and_checks_of_newer_words_are_told_by_books() {
     let stored = books::stored();
     let right = books::answered(&stored, None).unwrap();
-    for fault in [Fault::ScratchOf1344, Fault::ScratchOf169, Fault::ScratchOf167] {
+    let scratches = [Fault::ScratchOf168, Fault::ScratchOf127, Fault::ScratchOf125];
+    let newer = [Fault::NewerUnchecked, Fault::UnusedNewerUnchecked, Fault::NewerChecksOlder];
+    for fault in scratches.into_iter().chain(newer) {
         assert_ne!(books::answered(&stored, Some(fault)).unwrap(), right, "{fault:?}");
+    }
+}
+
+/// The stored words of an edit, as targets.
+fn stored_words(edit: &Request) -> Vec<i64> {
+    crate::model::targets(edit, &RANKS).iter().map(|target| target.word).collect()
+}
+
+/// "Add 5 or 6, Correct 2, Strike 6 or 7, Move 7 to 9": by h and s, and never by f.
+#[test]
+fn numbers_of_targets() {
+    let count = |kind, h: i64, f: i64, s: i64| {
+        let mut edit = streams::a_fair_edit(kind);
+        set(&mut edit, &[(H, h), (F, f), (S, s)]);
+        stored_words(&edit).len()
+    };
+    for f in [0, 3] {
+        assert_eq!([0, 6].map(|h| count(Kind::Add, h, f, 5)), [5, 6]);
+        assert_eq!([0, 6].map(|h| count(Kind::AddInMinutes, h, f, 5)), [5, 6]);
+        assert_eq!([0, 6].map(|h| count(Kind::Correct, h, f, 5)), [2, 2]);
+        assert_eq!([0, 5].map(|s| count(Kind::Strike, 6, f, s)), [6, 7]);
+        let moves = [(0, 0), (0, 5), (6, 0), (6, 5)].map(|(h, s)| count(Kind::Move, h, f, s));
+        assert_eq!(moves, [7, 8, 8, 9]);
+    }
+}
+
+/// A move with all its legs, by hand: 1 and 3 are the counts of passages 0 and 1, 2 the newest
+/// leg of 1, 100 the link of 10, 1,263 the newer word of 300, 2,060 to 2,063 those of 500 but its
+/// measure, 4,063 the newer word of 1,000.
+#[test]
+fn nine_targets_by_position() {
+    let mut edit = Request::new(Kind::Move, &[(P, 0), (Q, 1), (F, 10), (R, 500), (S, 300)]);
+    set(&mut edit, &[(H, 1_000), (C, 3), (D, 1), (From, 1), (To, 2)]);
+    assert_eq!(stored_words(&edit), [1, 2, 3, 100, 1_263, 2_060, 2_061, 2_063, 4_063]);
+}
+
+/// Adds a first leg, and others on top of it.
+fn chain_of(desk: &mut Desk, p: i64, legs: &[i64]) {
+    for (count, leg) in legs.iter().enumerate() {
+        let mut add = first_add(0);
+        let h = if count == 0 { 0 } else { legs[count - 1] };
+        set(&mut add, &[(P, p), (R, *leg), (H, h), (C, count as i64)]);
+        let tries = if h == 0 { 10 } else { 12 };
+        assert_eq!(settled(desk, add), Answer::Granted(tries));
+    }
+}
+
+/// The newer words of legs.
+fn newer_words(desk: &Desk, legs: &[i64]) -> Vec<u64> {
+    legs.iter().map(|leg| desk.book[newer_word(*leg) as usize].bits()).collect()
+}
+
+#[test]
+fn chains_run_both_ways() {
+    let legs = [5, 9, 2, 1_008];
+    let mut desk = Desk::fresh();
+    chain_of(&mut desk, 3, &legs);
+    assert_eq!(newer_words(&desk, &legs), [9, 2, 1_008, 0]);
+    let of = [(Team, 0), (From, 1), (To, 2), (Distance, 5_000), (Compass, 9_000), (Clino, -150)];
+    let mut strike = Request::new(Kind::Strike, &of);
+    set(&mut strike, &[(P, 3), (F, 2), (R, 9), (S, 5), (C, 4)]);
+    assert_eq!(settled(&mut desk, strike), Answer::Granted(14));
+    assert_eq!(newer_words(&desk, &legs), [2, 0, 1_008, 0]);
+    let mut moved = Request::new(Kind::Move, &of);
+    set(&mut moved, &[(P, 3), (Q, 4), (F, 0), (R, 1_008), (S, 2), (C, 3), (H, 0), (D, 0)]);
+    assert_eq!(settled(&mut desk, moved), Answer::Granted(16));
+    assert_eq!(newer_words(&desk, &legs), [2, 0, 0, 0]);
+    set(&mut moved, &[(F, 2), (R, 5), (S, 0), (C, 2), (H, 1_008), (D, 1)]);
+    assert_eq!(settled(&mut desk, moved), Answer::Granted(16));
+    assert_eq!(newer_words(&desk, &legs), [0, 0, 0, 5]);
+    assert!(books::sound(&desk.book, None));
+}
+
+/// "Leg, link and count ranges shrink to match."
+#[test]
+fn ranges_of_legs_and_counts() {
+    let answer = |kind, field, value| {
+        let mut edit = streams::a_fair_edit(kind);
+        edit.set(field, value);
+        asked(&mut Desk::fresh(), edit)
+    };
+    for kind in [Kind::Add, Kind::Correct, Kind::Strike, Kind::Move] {
+        let fair = streams::a_fair_edit(kind);
+        for field in [F, R, S, H, C, D].into_iter().filter(|field| fair.form().contains(field)) {
+            let counts = field == D || (field == C && kind == Kind::Add);
+            let last = if counts { 1_007 } else { 1_008 };
+            let least = i64::from(field == R || (field == C && !counts));
+            assert!(matches!(answer(kind, field, last), Answer::Standing(_)), "{kind:?} {field:?}");
+            assert!(matches!(answer(kind, field, least), Answer::Standing(_)));
+            assert_eq!(answer(kind, field, last + 1), Answer::Refused(10), "{kind:?} {field:?}");
+            assert_eq!(answer(kind, field, 1_344), Answer::Refused(10), "{kind:?} {field:?}");
+        }
+    }
+    assert_eq!(asked(&mut Desk::fresh(), Request::look(4_095)), Answer::Value(0));
+}
+
+/// A view may name six words, and a lent one with more isn't well made; an edit may have nine.
+#[test]
+fn more_names_are_told_by_lent_calls() {
+    let calls = lent::stored();
+    let right = lent::answered(&calls, None);
+    for fault in [Fault::NineNamed, Fault::SixTargets] {
+        assert_ne!(lent::answered(&calls, Some(fault)), right, "{fault:?}");
     }
 }
 
@@ -592,7 +697,7 @@ fn demand_three_notices_planted_faults() {
 
 #[test]
 fn demand_three_tells_wrong_programs_apart() {
-    let inputs = [streams::minutes(4, 20_000), streams::plumb(4, 0)];
+    let inputs = [streams::minutes(5, 20_000), streams::plumb(4, 0)];
     let mut otherwise = Vec::new();
     for (name, fault) in FAULTS {
         let noticed = inputs.iter().any(|input| check(input, &answers(fault, input)).is_err());
@@ -605,7 +710,8 @@ fn demand_three_tells_wrong_programs_apart() {
             || [Fault::DownZeroRefused, Fault::SixtyMinutesPass].contains(&fault)
             || [Fault::SignTwoIsDown, Fault::NinetyAndMinutes].contains(&fault)
             || [Fault::KindsBetweenKnown, Fault::MinutesUnknownByLength].contains(&fault)
-            || fault == Fault::AnglesAfterStations
+            || [Fault::AnglesAfterStations, Fault::SixTargets].contains(&fault)
+            || fault == Fault::LegsTo1344
             || NOT_OF_STREAMS.contains(&fault);
         if noticed == kept {
             otherwise.push(name);

@@ -70,15 +70,20 @@ impl Leg {
         Leg { number, from, to, measure: figures(edit.measure()) }
     }
 
-    /// "all in range, from other than to", and a plumb leg's compass 0.
-    pub fn sound(&self) -> bool {
+    /// "all in range, from other than to", and a plumb leg's compass 0; the numbers end
+    /// with the layout's last.
+    pub fn sound_up_to(&self, last: i64) -> bool {
         let stations = 0..65_536;
-        (1..=LEGS).contains(&self.number)
+        (1..=last).contains(&self.number)
             && stations.contains(&self.from)
             && stations.contains(&self.to)
             && self.from != self.to
             && self.measure.in_range()
             && self.measure == figures(self.measure)
+    }
+
+    pub fn sound(&self) -> bool {
+        self.sound_up_to(LEGS)
     }
 
     fn same_stations(&self, other: &Leg) -> bool {
@@ -186,12 +191,14 @@ impl Plain {
             let p = word / 2;
             return if word % 2 == 0 { self.newest(p) } else { self.count(p) };
         }
-        let Some((p, index)) = self.find((word - 64) / 3 + 1) else { return 0 };
+        let Some((p, index)) = self.find((word - 64) / 4 + 1) else { return 0 };
         let leg = self.list(p)[index];
-        match (word - 64) % 3 {
+        match (word - 64) % 4 {
             0 => self.number_at(p, Some(index + 1)),
             1 => place(p, leg.from, leg.to),
-            _ => leg.measure.written(),
+            2 => leg.measure.written(),
+            // "the next newer leg, 0 for the newest"
+            _ => self.number_at(p, index.checked_sub(1)),
         }
     }
 

@@ -259,9 +259,9 @@ impl Request {
             Team => (0, 15),
             P | Q => (0, 31),
             R => (1, LEGS),
-            // "f, s, h 0 to 1,344"
+            // "f, s, h 0 to 1,344", and now 1,008: "Leg, link and count ranges shrink to match".
             F | S | H => (0, LEGS),
-            // "c in Add and d 0 to 1,343; other c 1 to 1,344"
+            // "c in Add and d 0 to 1,343; other c 1 to 1,344", shrunk alike.
             C if matches!(self.kind, Kind::Add | Kind::AddInMinutes) => (0, LEGS - 1),
             C => (1, LEGS),
             D => (0, LEGS - 1),

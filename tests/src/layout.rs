@@ -5,8 +5,8 @@
 pub const WORDS: i64 = 4_096;
 /// "Passage p, 0 to 31".
 pub const PASSAGES: i64 = 32;
-/// "Leg r, 1 to 1,344".
-pub const LEGS: i64 = 1_344;
+/// "Leg r, now 1 to 1,008".
+pub const LEGS: i64 = 1_008;
 /// "held by team t, 0 to 15".
 pub const TEAMS: i64 = 16;
 /// Named in place of a team where a mark is no team's: "else 65,535".
@@ -64,9 +64,10 @@ pub fn count_word(p: i64) -> i64 {
     2 * p + 1
 }
 
-/// "Leg r ... has three words from 64 + 3(r - 1): link, place, measure."
+/// "Leg r ... starts at word 64 + 4(r - 1)": link, place, measure and, "each leg gets a
+/// fourth word, the next newer leg, 0 for the newest", newer.
 pub fn link_word(r: i64) -> i64 {
-    64 + 3 * (r - 1)
+    64 + 4 * (r - 1)
 }
 
 pub fn place_word(r: i64) -> i64 {
@@ -75,6 +76,16 @@ pub fn place_word(r: i64) -> i64 {
 
 pub fn measure_word(r: i64) -> i64 {
     link_word(r) + 2
+}
+
+pub fn newer_word(r: i64) -> i64 {
+    link_word(r) + 3
+}
+
+/// The leg that has this word as its newer word, if one has.
+pub fn leg_of_newer(word: i64) -> Option<i64> {
+    let r = (word - newer_word(0)) / 4;
+    (r >= 1 && newer_word(r) == word).then_some(r)
 }
 
 /// "They are accepted exactly when each number 0 to 31 occurs", and they are 32.

@@ -235,6 +235,13 @@ fn add(team: i64, p: i64, r: i64) -> Request {
     Request::new(Kind::Add, &[&leg[..], &measure].concat())
 }
 
+/// Leg 7 on top of h, the only leg of passage 25.
+fn on_top(team: i64, h: i64) -> Request {
+    let mut added = add(team, 25, 7);
+    [(H, h), (C, 1)].into_iter().for_each(|(field, value)| added.set(field, value));
+    added
+}
+
 fn correct(team: i64, old: [i64; 3], new: [i64; 3]) -> Request {
     let leg = [(Team, team), (P, 0), (R, 7), (From, 1), (To, 2)];
     let old = [(Distance, old[0]), (Compass, old[1]), (Clino, old[2])];
@@ -261,6 +268,19 @@ fn opened() -> Vec<Call> {
         Call::ask(correct(1, MEASURE, [1, 0, 0])),
         Call::ask(strike(2, [9, 8, 3], MEASURE)),
         Call::ask(to_25(3, 6, [8, 3, 9, 2])),
+        Call::Title("The newer words of h, of s and of r among them, where there is such a leg."),
+        Call::Fresh,
+        Call::ask(on_top(0, 9)),
+        Call::ask(on_top(1, 6)),
+        Call::ask(strike(2, [9, 0, 2], MEASURE)),
+        Call::ask(strike(3, [0, 8, 2], MEASURE)),
+        Call::ask(strike(4, [0, 0, 1], MEASURE)),
+        Call::ask(strike(5, [9, 6, 3], MEASURE)),
+        Call::ask(to_25(6, 6, [0, 1, 0, 0])),
+        Call::ask(to_25(7, 6, [8, 2, 0, 0])),
+        Call::ask(to_25(8, 6, [0, 1, 9, 2])),
+        Call::ask(to_25(9, 6, [6, 2, 5, 1])),
+        Call::ask(to_25(10, 6, [LEGS, 2, LEGS - 1, 1])),
         Call::Title("A view does alike, and beside them stand the words in the order named."),
         Call::Fresh,
         Call::ask(Request::view(0, &[4_095, 12, 65, 51, 50, 13])),
@@ -284,7 +304,7 @@ fn plumb_leg() -> Vec<Call> {
     let edits = [
         (correct(1, figures, [1, 18_000, 9_000]), 3),
         (strike(1, [0, 0, 1], figures), 9),
-        (to_25(1, 0, [0, 1, 0, 0]), 12),
+        (to_25(1, 0, [0, 1, 0, 0]), 14),
     ];
     for (edit, steps) in edits {
         calls.push(Call::ask(edit));

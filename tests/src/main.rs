@@ -2,6 +2,7 @@
 //! compared with it. See README.md.
 
 mod books;
+mod carried;
 #[cfg(test)]
 mod checks;
 mod compare;
@@ -34,6 +35,7 @@ const USAGE: &str = "usage:
   tests stored DIR [--check]
   tests lent DIR [--check]
   tests books DIR [--check]
+  tests carried DIR [--check | --wrong FAULT]
   tests lists DIR [--check | --seed N | --wrong FAULT]
   tests serve [--wrong FAULT]";
 
@@ -64,6 +66,12 @@ fn run(words: &[&str]) -> Result<String, String> {
         ["lent", dir, "--check"] => check_lent(Path::new(dir)),
         ["books", dir] => store_books(Path::new(dir)),
         ["books", dir, "--check"] => check_books(Path::new(dir)),
+        ["carried", dir] => store_carried(Path::new(dir)),
+        ["carried", dir, "--check"] => check_carried(Path::new(dir)),
+        ["carried", dir, "--wrong", name] => {
+            let fault = carried::named(name).ok_or(USAGE)?;
+            wrong_carried(Path::new(dir), fault)
+        }
         ["lists", dir] => store_lists(Path::new(dir), 0),
         ["lists", dir, "--seed", number] => store_lists(Path::new(dir), 1_000 * parsed(number)?),
         ["lists", dir, "--check"] => check_lists(Path::new(dir)),
@@ -174,6 +182,33 @@ fn check_books(dir: &Path) -> Result<String, String> {
         return Err(format!("the stored answers to books differ from the model's, case {line:?}"));
     }
     books::summary(&output)
+}
+
+/// Writes books to be carried over, and what the model says of each.
+fn store_carried(dir: &Path) -> Result<String, String> {
+    let input = carried::stored();
+    let failed = |error: std::io::Error| error.to_string();
+    fs::create_dir_all(dir).map_err(failed)?;
+    fs::write(dir.join("stdout"), carried::answered(&input, None)?).map_err(failed)?;
+    fs::write(dir.join("stdin"), &input).map_err(failed)?;
+    check_carried(dir)
+}
+
+/// The stored cases and lines are the model's, and each answer that there is comes.
+fn check_carried(dir: &Path) -> Result<String, String> {
+    let (input, output) = read_lists(dir)?;
+    if input != carried::stored() {
+        return Err("stdin isn't that of the model's cases".to_string());
+    }
+    lists::same(&carried::answered(&input, None)?, &output)?;
+    carried::summary(&output)
+}
+
+/// Complains of the first line that a wrong program has otherwise.
+fn wrong_carried(dir: &Path, fault: carried::Fault) -> Result<String, String> {
+    let (input, output) = read_lists(dir)?;
+    lists::same(&output, &carried::answered(&input, Some(fault))?)?;
+    Ok("the stored cases don't tell this fault".to_string())
 }
 
 /// Writes a mixed list of calls, and what the model says of each.

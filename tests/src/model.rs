@@ -1,6 +1,7 @@
 //! The second model: "Edits", "Tickets and steps", "Frames refused, in checking
 //! order" and "The program survey", and of document 02 "Words seen together", "Who
-//! holds the word", "Plumb legs", "The cave's own ranks" and "Old instruments in minutes".
+//! holds the word", "Plumb legs", "The cave's own ranks", "Old instruments in minutes" and
+//! "Chains that run both ways".
 
 use crate::frames::{any_twice, next, parse, Answer, Field::*, Kind, Next, Request};
 use crate::layout::*;
@@ -33,7 +34,11 @@ pub fn listed_targets(request: &Request) -> Vec<Target> {
     // "A plumb leg's compass is taken as 0 in edits, quoted figures ... alike".
     let [measure, new_measure] =
         [edit.measure(), edit.new_measure()].map(|measure| measure.taken().written());
-    match edit.kind {
+    // "Where h isn't 0, Add and Move set it for h 0->r; where s isn't 0, Strike and Move
+    // set it for s r->f": nothing is set where there is no leg.
+    let newer =
+        |leg: i64, quoted: i64, new: i64| (leg != 0).then(|| target(newer_word(leg), quoted, new));
+    let listed = match edit.kind {
         // "Add: word 2p h->r, count c->c+1, link r 0->h, place r 0->place,
         // measure r 0->measure."
         Kind::Add => vec![
@@ -56,6 +61,8 @@ pub fn listed_targets(request: &Request) -> Vec<Target> {
             target(link_word(r), s, 0),
             target(place_word(r), place_in(p), 0),
             target(measure_word(r), measure, 0),
+            // "these two always set it for r f->0", where f is 0 too.
+            target(newer_word(r), f, 0),
         ],
         // "Move from p to q, h and d being newest leg and count of q: before-word
         // r->s, count of p c->c-1, word 2q h->r, count of q d->d+1, link r s->h,
@@ -67,12 +74,20 @@ pub fn listed_targets(request: &Request) -> Vec<Target> {
             target(count_word(q), d, d + 1),
             target(link_word(r), s, h),
             target(place_word(r), place_in(p), place_in(q)),
+            target(newer_word(r), f, 0),
         ],
         Kind::View => edit.named().iter().map(|word| target(*word, 0, *word)).collect(),
         Kind::AddInMinutes | Kind::CorrectInMinutes => Vec::new(),
         Kind::Step | Kind::Look => Vec::new(),
-    }
+    };
+    let of_front = if matches!(edit.kind, Kind::Add | Kind::Move) { newer(h, 0, r) } else { None };
+    let of_gap = if matches!(edit.kind, Kind::Strike | Kind::Move) { newer(s, r, f) } else { None };
+    listed.into_iter().chain(of_front).chain(of_gap).collect()
 }
+
+/// "An edit's ticket has up to 9 targets, a view's up to 6 as before."
+pub const MOST_OF_EDITS: i64 = 9;
+pub const MOST_OF_VIEWS: i64 = 6;
 
 /// "Targets are claimed by rising position", by the ranks in force.
 pub fn targets(request: &Request, ranks: &[i64]) -> Vec<Target> {
@@ -130,8 +145,12 @@ impl Ticket {
 
     /// "A ticket is well made if ..."
     pub fn well_made(&self) -> bool {
-        // "n is 1 to 6"
-        if !(1..=6).contains(&self.n) || (self.targets.len() as i64) < self.n {
+        // "n is 1 to 6", and now 9 of an edit.
+        let most = match self.phase {
+            Phase::Viewing | Phase::Viewed => MOST_OF_VIEWS,
+            Phase::Claiming | Phase::Putting | Phase::GivingBack => MOST_OF_EDITS,
+        };
+        if !(1..=most).contains(&self.n) || (self.targets.len() as i64) < self.n {
             return false;
         }
         // "its n words are below 4,096, their quoted and new values below 2^63"

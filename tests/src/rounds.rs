@@ -249,7 +249,7 @@ mod tests {
         }
     }
 
-    /// One of them is granted in twelve rounds, and meanwhile the other learns that
+    /// One of them is granted in sixteen rounds, and meanwhile the other learns that
     /// it is stale. In the order of listing each can have the word that the other
     /// wants.
     #[test]
@@ -257,7 +257,7 @@ mod tests {
         let wrong = wrong_by(Fault::ListingOrder);
         for (p, q) in [(0, 25), (25, 0), (31, 6)] {
             let input = opposite_moves(p, q);
-            assert_eq!(longest_of(&after(&Desk::answer, &input)), Some(12), "{p} and {q}");
+            assert_eq!(longest_of(&after(&Desk::answer, &input)), Some(16), "{p} and {q}");
             let desk = after(&wrong, &input);
             assert_eq!(longest(&desk, &wrong, &mut BTreeMap::new()), None, "{p} and {q}");
         }
@@ -304,7 +304,7 @@ mod tests {
                 }
                 let input = opposite_moves(p, q);
                 split(&input).iter().for_each(|frame| drop(desk.answer(frame)));
-                assert_eq!(longest_of(&desk), Some(12), "{p} and {q}");
+                assert_eq!(longest_of(&desk), Some(16), "{p} and {q}");
             }
         }
     }

@@ -239,7 +239,7 @@ fn draft_move(view: &Plain, team: i64, p: i64, q: i64, index: usize) -> Request 
 /// A word of the site's passages and legs.
 fn a_word(rng: &mut Prng, site: &Site) -> i64 {
     let (p, r) = (rng.pick(&site.passages), rng.pick(&site.legs));
-    let of_leg = rng.pick(&[link_word(r), place_word(r), measure_word(r)]);
+    let of_leg = rng.pick(&[link_word(r), place_word(r), measure_word(r), newer_word(r)]);
     rng.pick(&[newest_word(p), count_word(p), of_leg])
 }
 
@@ -247,7 +247,8 @@ fn a_word(rng: &mut Prng, site: &Site) -> i64 {
 fn draft_view(rng: &mut Prng, site: &Site, plain: &Plain, team: i64) -> Request {
     let p = rng.pick(&site.passages);
     let r = if plain.list(p).is_empty() { rng.pick(&site.legs) } else { plain.newest(p) };
-    let near = [newest_word(p), count_word(p), link_word(r), place_word(r), measure_word(r)];
+    let of_leg = [link_word(r), place_word(r), measure_word(r), newer_word(r)];
+    let near = [&[newest_word(p), count_word(p)], &of_leg[..]].concat();
     let (n, mut words) = (rng.between(1, 6) as usize, Vec::new());
     while words.len() < n {
         let any = a_word(rng, site);
@@ -476,15 +477,15 @@ impl Author {
         let one_more = add(&mut self.rng, &self.watch.plain, 0, p, 1);
         self.say(&one_more.bytes());
         let q = self.site.passages[1];
-        for index in [1_343, 700, 0] {
+        for index in [LEGS as usize - 1, 700, 0] {
             let moved = draft_move(&self.watch.plain, 3, p, q, index);
             self.settle(&moved);
         }
-        for index in [1_340, 700, 0] {
+        for index in [LEGS as usize - 4, 700, 0] {
             let struck = draft_strike(&self.watch.plain, 4, p, index);
             self.settle(&struck);
         }
-        let last = [measure_word(LEGS), newest_word(p), place_word(LEGS), link_word(LEGS)];
+        let last = [newer_word(LEGS), newest_word(p), place_word(LEGS), link_word(LEGS)];
         self.settle(&Request::view(5, &last));
         self.site.legs = (1..=LEGS).collect();
     }
@@ -508,6 +509,89 @@ impl Author {
                     self.settle(&request);
                 }
             }
+        }
+    }
+
+    /// Each field of a leg or a count at and one past its limits, and at those that there were
+    /// in three words a leg.
+    fn every_leg_limit(&mut self) {
+        let kinds = [Kind::Add, Kind::Correct, Kind::Strike, Kind::Move, Kind::AddInMinutes];
+        for fair in kinds.map(a_fair_edit) {
+            for field in [F, R, S, H, C, D].into_iter().filter(|at| fair.form().contains(at)) {
+                let (least, greatest) = fair.limits(field);
+                for value in [least, greatest, greatest + 1, 1_343, 1_344] {
+                    let mut request = fair;
+                    request.set(field, value);
+                    self.settle(&request);
+                }
+            }
+        }
+    }
+
+    /// Some legs that are in no list.
+    fn free_legs(&mut self, count: usize) -> Vec<i64> {
+        let mut legs = self.rng.some(LEGS, 1, LEGS);
+        legs.retain(|r| self.watch.plain.find(*r).is_none());
+        legs.truncate(count);
+        legs
+    }
+
+    /// A leg alone moved from one empty passage to another and back. A chain on top of it, then
+    /// its newest, a middle and its oldest leg moved away and back onto the chain, and struck,
+    /// with the newer words looked at.
+    fn both_ways(&mut self) {
+        let empty = |p: &i64| self.watch.plain.list(*p).is_empty();
+        let passages: Vec<i64> = (0..PASSAGES).filter(empty).collect();
+        let (p, q) = (passages[passages.len() - 1], passages[0]);
+        let legs = self.free_legs(7);
+        for r in &legs {
+            let added = add(&mut self.rng, &self.watch.plain, r % TEAMS, p, *r);
+            self.settle(&added);
+            if self.watch.plain.count(p) == 1 {
+                for (from, to) in [(p, q), (q, p)] {
+                    let moved = draft_move(&self.watch.plain, 2, from, to, 0);
+                    self.settle(&moved);
+                }
+            }
+        }
+        self.other_neighbours(p, q);
+        for index in [0, 2, usize::MAX] {
+            for (from, to) in [(p, q), (q, p)] {
+                let last = self.watch.plain.list(from).len() - 1;
+                let index = if from == p { index.min(last) } else { 0 };
+                let moved = draft_move(&self.watch.plain, 3, from, to, index);
+                self.settle(&moved);
+                self.look_at_newer(&legs);
+            }
+        }
+        for index in [2, usize::MAX, 0] {
+            let last = self.watch.plain.list(p).len() - 1;
+            let struck = draft_strike(&self.watch.plain, 4, p, index.min(last));
+            self.settle(&struck);
+            self.look_at_newer(&legs);
+        }
+    }
+
+    /// Strikes and moves of the legs of a chain that quote another leg of it as the next newer or
+    /// the next older. Where that leg's words, or the leg's own, are claimed before the links, a
+    /// newer word is what differs.
+    fn other_neighbours(&mut self, p: i64, q: i64) {
+        let plain = self.watch.plain.clone();
+        for (index, field) in (1..4).flat_map(|index| [(index, F), (index, S)]) {
+            let own = draft_strike(&plain, 5, p, index);
+            let named = [F, R, S].map(|at| own.get(at));
+            for other in plain.list(p).iter().map(|leg| leg.number).filter(|r| !named.contains(r)) {
+                let moves = other % 2 == 0;
+                let mut edit = if moves { draft_move(&plain, 5, p, q, index) } else { own };
+                edit.set(field, other);
+                self.settle(&edit);
+            }
+        }
+    }
+
+    fn look_at_newer(&mut self, legs: &[i64]) {
+        for r in legs {
+            self.say(&Request::look(newer_word(*r)).bytes());
         }
     }
 
@@ -641,7 +725,7 @@ impl Author {
     /// claimed in turn. Where the passages' ranks and numbers rise differently, the
     /// first claim by position is not the first by word number.
     pub fn cross(&mut self, p: i64, q: i64) {
-        let legs = self.rng.some(2, 1, LEGS);
+        let legs = self.free_legs(2);
         for (passage, r) in [(p, legs[0]), (q, legs[1])] {
             let added = add(&mut self.rng, &self.watch.plain, 0, passage, r);
             self.settle(&added);
@@ -829,6 +913,7 @@ pub fn full(seed: u64, frames: i64) -> Vec<u8> {
 pub fn at_limits(seed: u64, frames: i64) -> Vec<u8> {
     let mut author = Author::new(seed);
     author.every_rank();
+    author.both_ways();
     author.every_limit();
     author.contend(frames);
     author.sweep();
@@ -915,8 +1000,8 @@ pub fn of_hex(text: &str) -> Vec<u8> {
     text.split_whitespace().map(byte).collect()
 }
 
-/// The stored stream: the whole case, shafts, minutes, crossing moves, a strike of f = r,
-/// contention, fuzz, a sweep, a length field above 62 and a look behind it.
+/// The stored stream: the whole case, shafts, minutes, chains walked both ways, legs and counts
+/// at their limits, crossing moves, a strike of f = r, contention, fuzz, a sweep, a length field above 62 and a look behind it.
 pub fn stored() -> Vec<u8> {
     let mut author = Author::new(STORED_SEED);
     for frame in split(&whole_case().0) {
@@ -924,6 +1009,8 @@ pub fn stored() -> Vec<u8> {
     }
     author.every_shaft();
     author.every_minute();
+    author.both_ways();
+    author.every_leg_limit();
     // Passage 25 goes before 0 by rank, and 31 before 12.
     author.cross(0, 25);
     author.cross(31, 12);

@@ -6,7 +6,7 @@ use crate::layout::*;
 use crate::lent::{Call, NOBODYS};
 use crate::model::{Phase, Target, Ticket, STOP};
 
-/// Room for the targets of a team: more than "n is 1 to 6" lets a ticket have.
+/// Room for the targets of a team: as many as an edit may have, and more than a view may.
 const ROOM: i64 = 9;
 /// The numbers of a target: word, quoted value, new value.
 const TARGET: i64 = 3;
@@ -74,17 +74,17 @@ impl Slot {
     }
 
     /// A slot of so many targets, with nothing claimed, done or tried.
-    fn of(whose: Whose, targets: &[[u64; 3]]) -> Slot {
+    pub fn of(whose: Whose, targets: &[[u64; 3]]) -> Slot {
         let (n, numbers) = (targets.len() as i64, targets.concat());
         Slot { whose, n, claimed: 0, done: 0, tries: 0, numbers }
     }
 
-    fn counting(self, claimed: i64, done: i64) -> Slot {
+    pub fn counting(self, claimed: i64, done: i64) -> Slot {
         Slot { claimed, done, ..self }
     }
 
     /// With another n than it has targets.
-    fn saying(self, n: i64) -> Slot {
+    pub fn saying(self, n: i64) -> Slot {
         Slot { n, ..self }
     }
 
@@ -93,7 +93,7 @@ impl Slot {
     }
 
     /// With such a number in all the room behind its targets.
-    fn before(mut self, number: u64) -> Slot {
+    pub fn before(mut self, number: u64) -> Slot {
         self.numbers.resize((TARGET * ROOM) as usize, number);
         self
     }
@@ -103,7 +103,7 @@ const HELD: u64 = 1 << 63;
 const LARGEST: u64 = u64::MAX;
 
 /// So many targets of the words from 0 on, which a view names in their order.
-fn plain(whose: Whose, n: u64) -> Slot {
+pub fn plain(whose: Whose, n: u64) -> Slot {
     let target = |word: u64| [word, 0, if whose == Views { word } else { 1 }];
     Slot::of(whose, &(0..n).map(target).collect::<Vec<_>>())
 }
@@ -155,18 +155,49 @@ fn marks_of_nobody() -> Vec<Call> {
     calls
 }
 
-/// "n is 1 to 6"
+/// "An edit's ticket has up to 9 targets, a view's up to 6 as before."
 fn other_counts_of_targets() -> Vec<Call> {
-    let mut slots: Vec<Slot> = (7..=9).flat_map(|n| [plain(Edits, n), plain(Views, n)]).collect();
-    slots.extend([10, 255, 256, 262, 65_535].map(|n| plain(Edits, 9).saying(n)));
-    slots.extend([10, 65_535].map(|n| plain(Views, 9).saying(n)));
-    slots.extend([7, 9, 65_535].map(|n| plain(StaleEdits, 9).saying(n).counting(2, 1)));
-    slots.extend([7, 65_535].map(|n| plain(Edits, 9).saying(n).counting(n, n - 1)));
-    slots.extend([7, 65_535].map(|n| plain(Views, 9).saying(n).counting(n, n - 1)));
-    let last = [plain(Edits, 9), plain(Edits, 9).saying(65_535), plain(Views, 9).saying(10)];
-    let title = "More targets than six: refusal 7, before 8, 10 and 11.";
+    let mut slots: Vec<Slot> = (7..=9).map(|n| plain(Views, n)).collect();
+    slots.extend([10, 255, 256, 262, 265, 65_535].map(|n| plain(Edits, 9).saying(n)));
+    slots.extend([10, 262, 65_535].map(|n| plain(Views, 9).saying(n)));
+    slots.extend([10, 265, 65_535].map(|n| plain(StaleEdits, 9).saying(n).counting(2, 1)));
+    slots.extend([10, 65_535].map(|n| plain(Edits, 9).saying(n).counting(n, n - 1)));
+    slots.extend([7, 9, 65_535].map(|n| plain(Views, 9).saying(n).counting(n, n - 1)));
+    let last = [
+        plain(Views, 9),
+        plain(Edits, 9).saying(10),
+        plain(Edits, 9).saying(65_535),
+        plain(Views, 9).saying(10),
+    ];
+    let title = "More targets than nine, or six of a view: refusal 7, before 8, 10 and 11.";
     let of_last = "The same of the last team.";
     [all_in_each_way(title, 3, &slots), all_in_each_way(of_last, 15, &last)].concat()
+}
+
+/// Edits with more targets than a view may have, in each phase.
+fn most_targets() -> Vec<Call> {
+    let of = |n: u64| {
+        [
+            plain(Edits, n),
+            plain(Edits, n).counting(n as i64 - 1, 0),
+            plain(Edits, n).counting(n as i64, n as i64 - 1),
+            plain(StaleEdits, n).counting(n as i64 - 1, n as i64 - 2),
+        ]
+    };
+    let slots = (7..=9).flat_map(of).collect::<Vec<_>>();
+    let nine: Vec<[u64; 3]> = (0..9).map(|k| [4_095 - k, k, HELD - 1 - k]).collect();
+    let words: Vec<(i64, u64)> = nine.iter().map(|target| (target[0] as i64, target[1])).collect();
+    let mut off = words.clone();
+    off[8].1 = 9;
+    let title = "Seven to nine targets of an edit are well made, of any team.";
+    [
+        all_in_each_way(title, 3, &slots),
+        all_in_each_way("The same of the last team.", 15, &slots[8..]),
+        vec![Call::Title("Nine targets claimed and put, and given back at the ninth.")],
+        steps(&words, 15, &Slot::of(Edits, &nine), 18),
+        steps(&off, 15, &Slot::of(Edits, &nine), 17),
+    ]
+    .concat()
 }
 
 /// "its n words are below 4,096"
@@ -268,6 +299,7 @@ fn numbers_behind() -> Vec<Call> {
     let slots = [
         Slot::of(Edits, &[[0, 0, 5]]),
         plain(Edits, 6),
+        plain(Edits, 8),
         plain(Edits, 2).counting(2, 0),
         plain(StaleEdits, 3).counting(2, 0),
         two_words.clone().counting(1, 0),
@@ -301,14 +333,14 @@ fn every_team() -> Vec<Call> {
     let mut calls = vec![Call::Title("A ticket of every team."), Call::Fresh];
     for team in 0..TEAMS {
         let first = 100 * team as u64;
-        let targets = |named: fn(u64) -> u64| {
-            (0..6).map(|k| [first + k, 0, first + named(k)]).collect::<Vec<_>>()
+        let targets = |n: u64, named: fn(u64) -> u64| {
+            (0..n).map(|k| [first + k, 0, first + named(k)]).collect::<Vec<_>>()
         };
         let views = team % 2 == 1;
         let slot = if views {
-            Slot::of(Views, &targets(|k| 5 - k))
+            Slot::of(Views, &targets(6, |k| 5 - k))
         } else {
-            Slot::of(Edits, &targets(|k| k + 1))
+            Slot::of(Edits, &targets(9, |k| k + 1))
         };
         calls.push(Call::Lend(team, slot.before(LARGEST)));
     }
@@ -319,6 +351,10 @@ fn every_team() -> Vec<Call> {
     calls.extend([adds(3)[0], views(3)[0]].map(Call::ask));
     let six = Request::view(3, &[4_095, 12, 65, 51, 50, 13]);
     calls.extend([Call::Lend(3, plain(Edits, 9).counting(0, 9)), Call::ask(six)]);
+    let nine = [(Team, 3), (P, 0), (Q, 1), (F, 10), (R, 500), (S, 300), (H, 1_000)];
+    let mut nine = Request::new(Kind::Move, &nine);
+    [(C, 3), (D, 1), (From, 1), (To, 2)].into_iter().for_each(|(at, value)| nine.set(at, value));
+    calls.extend([Call::Lend(3, plain(Edits, 9).counting(0, 9)), Call::ask(nine)]);
     calls
 }
 
@@ -398,7 +434,7 @@ fn at_limits() -> Vec<Call> {
 /// All calls on lent tables.
 pub fn cases() -> Vec<Call> {
     let badly_made = [other_counts_of_targets(), other_words(), other_values(), other_counts()];
-    let others = [other_names(), bad_for_one_team()];
+    let others = [most_targets(), other_names(), bad_for_one_team()];
     let odd = [odd_counts(), numbers_behind(), finished(), every_team(), out_of_order()];
     let steps = [marks_lost(), changes_of_phase(), tries_stop(), at_limits()];
     [vec![marks_of_nobody()], badly_made.into(), others.into(), odd.into(), steps.into()]
@@ -481,7 +517,7 @@ mod tests {
         ("the whole room is the ticket's", |slot| {
             let said = slot.says()?;
             let whole = Slot { n: ROOM, ..slot.clone() }.in_phase(said.phase);
-            let fits = (1..=6).contains(&said.n) && slot.numbers.len() == 27;
+            let fits = (1..=ROOM).contains(&said.n) && slot.numbers.len() == 27;
             let bad = |target: &Target| !(0..WORDS).contains(&target.word);
             Some(if fits && whole.targets.iter().any(bad) { Ticket { n: 0, ..said } } else { said })
         }),

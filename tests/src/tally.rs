@@ -1,7 +1,8 @@
 //! What came how often, and what must have come at all.
 
 use crate::frames::{parse, split, Answer, Field::*, Kind, Request, ANGLES, NEW_ANGLES};
-use crate::layout::TEAMS;
+use crate::layout::{leg_of_newer, TEAMS};
+use crate::model::listed_targets;
 use std::collections::BTreeMap;
 
 #[derive(Default)]
@@ -28,7 +29,7 @@ const ANSWERS: [&str; 20] = [
 
 /// What streams with contention must also have shown.
 #[rustfmt::skip]
-const OUTCOMES: [&str; 29] = [
+const OUTCOMES: [&str; 42] = [
     "granted Add", "granted Correct", "granted Move", "granted Strike of newest",
     "granted Strike of oldest", "granted Strike of middle", "granted Strike of only",
     "stale at once", "stale after Found", "granted after waits", "seen 1", "seen 2", "seen 3",
@@ -38,6 +39,11 @@ const OUTCOMES: [&str; 29] = [
     "granted Correct of a leg in minutes", "granted CorrectInMinutes of a leg in hundredths",
     "granted Strike of a leg in minutes", "granted at down zero",
     "refused 90 degrees and minutes", "refused angle with equal stations",
+    "granted Add with 5 targets", "granted Add with 6 targets",
+    "granted Strike with 6 targets", "granted Strike with 7 targets",
+    "granted Move with 7 targets", "granted Move with 8 targets", "granted Move with 9 targets",
+    "granted Move of newest", "granted Move of oldest", "granted Move of middle",
+    "found at a newer word", "wait at a newer word", "seen with a newer word",
 ];
 
 /// Measures of edits with a compass other than 0 at clino 9,000, 8,999 and their
@@ -89,28 +95,56 @@ impl Tally {
         let team = request.team();
         match (answer, open.get_mut(&team)) {
             (Answer::Standing(_), _) => drop(open.insert(team, (request, false, false))),
-            (Answer::Waiting(_, holder), Some((_, waited, _))) => {
+            (Answer::Waiting(word, holder), Some((_, waited, _))) => {
                 *waited = true;
                 self.count_wait(open, team, *holder);
+                if leg_of_newer(*word).is_some() {
+                    self.one_more("wait at a newer word");
+                }
             }
-            (Answer::Found(_), Some((_, _, found))) => *found = true,
+            (Answer::Found(word), Some((_, _, found))) => {
+                *found = true;
+                if leg_of_newer(*word).is_some() {
+                    self.one_more("found at a newer word");
+                }
+            }
             (Answer::Stale(..), Some((_, _, true))) => self.one_more("stale after Found"),
             (Answer::Stale(..), Some((_, _, false))) => self.one_more("stale at once"),
             (Answer::Granted(_), Some((edit, waited, _))) => {
                 self.one_more(&granted_name(edit));
+                self.count_targets(edit);
                 self.count_steep("granted", edit);
                 self.count_forms(edit);
                 if *waited {
                     self.one_more("granted after waits");
                 }
             }
-            (Answer::Seen(values), Some((_, waited, _))) => {
+            (Answer::Seen(values), Some((view, waited, _))) => {
                 self.one_more(&format!("seen {}", values.len()));
+                if view.named().into_iter().any(|word| leg_of_newer(word).is_some()) {
+                    self.one_more("seen with a newer word");
+                }
                 if *waited {
                     self.one_more("seen after waits");
                 }
             }
             _ => {}
+        }
+    }
+
+    /// A granted edit by its number of targets, and a move by its leg's neighbours.
+    fn count_targets(&mut self, edit: &Request) {
+        let edit = edit.in_hundredths();
+        let n = listed_targets(&edit).len();
+        self.one_more(&format!("granted {:?} with {n} targets", edit.kind));
+        let which = match (edit.get(F), edit.get(S)) {
+            (0, 0) => "only",
+            (0, _) => "newest",
+            (_, 0) => "oldest",
+            _ => "middle",
+        };
+        if edit.kind == Kind::Move {
+            self.one_more(&format!("granted Move of {which}"));
         }
     }
 

@@ -1,10 +1,15 @@
 //! Wrong programs for `serve --wrong`: the model with one fault put around it,
 //! so that the comparison can be seen to tell each apart.
 
+use crate::books::Rows;
+use crate::demand3::Plain;
 use crate::frames::{nearest_hundredth, parse, Answer, Field::*, Kind, Request};
 use crate::frames::{ANGLES, NEW_ANGLES};
-use crate::layout::{measure_word, reading, Measure, Reading, Word, NOBODY};
-use crate::model::{listed_targets, targets_by, Desk, Phase, Ticket};
+use crate::layout::{
+    leg_of_newer, link_word, measure_word, newer_word, position, reading, Measure, Reading, Word,
+    NOBODY,
+};
+use crate::model::{listed_targets, targets_by, Desk, Phase, Target, Ticket};
 
 #[derive(Clone, Copy, Debug, PartialEq, Eq)]
 pub enum Fault {
@@ -62,12 +67,18 @@ pub enum Fault {
     PlumbReads,
     /// A plumb leg reads as no leg.
     PlumbUnread,
-    /// The check wants a byte for each leg.
-    ScratchOf1344,
+    /// The check wants a bit for each leg that there was in three words a leg.
+    ScratchOf168,
     /// The check wants a byte more than it needs.
-    ScratchOf169,
+    ScratchOf127,
     /// The check takes a byte less than it needs.
-    ScratchOf167,
+    ScratchOf125,
+    /// The check doesn't look at newer words.
+    NewerUnchecked,
+    /// The check looks at the newer words of legs in use alone.
+    UnusedNewerUnchecked,
+    /// The check wants the next older leg in a newer word.
+    NewerChecksOlder,
     /// Minutes are rounded down.
     RoundsDown,
     /// Minutes are rounded up.
@@ -103,9 +114,35 @@ pub enum Fault {
     KindsBetweenKnown,
     /// Kinds 17 and 18 of another length are refused for their kind.
     MinutesUnknownByLength,
+    /// Add leaves the newer word of h.
+    AddWithoutNewer,
+    /// Move leaves the newer word of h.
+    MoveWithoutNewer,
+    /// Add and Move quote h for the newer word of h.
+    FrontQuoted,
+    /// Strike and Move claim the newer word of s and leave r there.
+    OlderKeepsNewer,
+    /// Strike and Move write 0 into the newer word of s, whatever f is.
+    OlderBecomesNewest,
+    /// Strike and Move claim the newer word of r and leave f there.
+    NewerLeft,
+    /// Move quotes s for the newer word of r.
+    NewerQuotesOlder,
+    /// Where f is 0, Strike and Move have no target for the newer word of r.
+    NDropsZeroChange,
+    /// Where h is 0, Add and Move have a target for the newer word of leg 1.
+    NewerOfNone,
+    /// Newer words of h and s are claimed behind all others.
+    NewerLast,
+    /// Legs, links and counts go to 1,344 and 1,343.
+    LegsTo1344,
+    /// A ticket of an edit with more than six targets isn't well made.
+    SixTargets,
+    /// A ticket of a view with up to nine targets is well made.
+    NineNamed,
 }
 
-pub const FAULTS: [(&str, Fault); 47] = [
+pub const FAULTS: [(&str, Fault); 63] = [
     ("waiting-when-free", Fault::WaitingWhenFree),
     ("gives-back-new", Fault::GivesBackNew),
     ("listing-order", Fault::ListingOrder),
@@ -133,9 +170,12 @@ pub const FAULTS: [(&str, Fault); 47] = [
     ("plumb-refused", Fault::PlumbRefused),
     ("plumb-reads", Fault::PlumbReads),
     ("plumb-unread", Fault::PlumbUnread),
-    ("scratch-1344", Fault::ScratchOf1344),
-    ("scratch-169", Fault::ScratchOf169),
-    ("scratch-167", Fault::ScratchOf167),
+    ("scratch-168", Fault::ScratchOf168),
+    ("scratch-127", Fault::ScratchOf127),
+    ("scratch-125", Fault::ScratchOf125),
+    ("newer-unchecked", Fault::NewerUnchecked),
+    ("unused-newer-unchecked", Fault::UnusedNewerUnchecked),
+    ("newer-checks-older", Fault::NewerChecksOlder),
     ("rounds-down", Fault::RoundsDown),
     ("rounds-up", Fault::RoundsUp),
     ("minutes-as-hundredths", Fault::MinutesAsHundredths),
@@ -153,18 +193,35 @@ pub const FAULTS: [(&str, Fault); 47] = [
     ("minutes-not-adjusted", Fault::MinutesNotAdjusted),
     ("kinds-between-known", Fault::KindsBetweenKnown),
     ("minutes-unknown-by-length", Fault::MinutesUnknownByLength),
+    ("add-without-newer", Fault::AddWithoutNewer),
+    ("move-without-newer", Fault::MoveWithoutNewer),
+    ("front-quoted", Fault::FrontQuoted),
+    ("older-keeps-newer", Fault::OlderKeepsNewer),
+    ("older-becomes-newest", Fault::OlderBecomesNewest),
+    ("newer-left", Fault::NewerLeft),
+    ("newer-quotes-older", Fault::NewerQuotesOlder),
+    ("n-drops-zero-change", Fault::NDropsZeroChange),
+    ("newer-of-none", Fault::NewerOfNone),
+    ("newer-last", Fault::NewerLast),
+    ("legs-to-1344", Fault::LegsTo1344),
+    ("six-targets", Fault::SixTargets),
+    ("nine-named", Fault::NineNamed),
 ];
 
-/// Faults that no stream can tell: of marks that only lent books have, of readings and
-/// of the check.
+/// Faults that no stream can tell: of marks that only lent books have, of tickets that are
+/// lent, of readings and of the check.
 #[cfg(test)]
-pub const NOT_OF_STREAMS: [Fault; 6] = [
+pub const NOT_OF_STREAMS: [Fault; 10] = [
     Fault::SixteenNamed,
+    Fault::NineNamed,
     Fault::PlumbReads,
     Fault::PlumbUnread,
-    Fault::ScratchOf1344,
-    Fault::ScratchOf169,
-    Fault::ScratchOf167,
+    Fault::ScratchOf168,
+    Fault::ScratchOf127,
+    Fault::ScratchOf125,
+    Fault::NewerUnchecked,
+    Fault::UnusedNewerUnchecked,
+    Fault::NewerChecksOlder,
 ];
 
 pub fn named(name: &str) -> Option<Fault> {
@@ -175,6 +232,9 @@ pub fn named(name: &str) -> Option<Fault> {
 pub fn answer(fault: Fault, desk: &mut Desk, frame: &[u8]) -> Answer {
     let Ok(request) = parse(frame) else { return unread(fault, desk.answer(frame), frame) };
     let team = request.team();
+    if let Some(refusal) = judged_otherwise(fault, desk, &request) {
+        return refusal;
+    }
     let stepping = request.kind == Kind::Step;
     let own = desk.tickets.get_mut(&team).filter(|ticket| stepping && ticket.well_made());
     if let Some(ticket) = own {
@@ -212,16 +272,97 @@ pub fn answer(fault: Fault, desk: &mut Desk, frame: &[u8]) -> Answer {
             if request.kind == Kind::Strike && request.get(F) == request.get(R) =>
         {
             let ticket = Ticket::opened(&request, &desk.ranks);
+            let n = ticket.n;
             desk.tickets.insert(team, ticket);
-            return Answer::Standing(5);
+            return Answer::Standing(n);
+        }
+        (Fault::LegsTo1344, Answer::Refused(10), None) if !beyond_1344(&request) => {
+            let ticket = Ticket::opened(&request, &desk.ranks);
+            let n = ticket.n;
+            desk.tickets.insert(team, ticket);
+            return Answer::Standing(n);
         }
         (Fault::ClaimedOrder, Answer::Standing(_), Some(ticket)) if request.kind == Kind::View => {
             ticket.targets.iter_mut().for_each(|target| target.new = Word::Value(target.word));
         }
-        (_, Answer::Standing(_), Some(ticket)) => write_otherwise(fault, &request, ticket),
+        (_, Answer::Standing(_), Some(ticket)) => {
+            write_otherwise(fault, &request, ticket);
+            list_otherwise(fault, &request.in_hundredths(), ticket, &desk.ranks);
+            return Answer::Standing(ticket.n);
+        }
         _ => {}
     }
     answer
+}
+
+/// A refusal that comes from another rule for tickets that are well made.
+fn judged_otherwise(fault: Fault, desk: &Desk, request: &Request) -> Option<Answer> {
+    let ticket = desk.tickets.get(&request.team()).filter(|_| request.kind != Kind::Look)?;
+    let views = matches!(ticket.phase, Phase::Viewing | Phase::Viewed);
+    let opens = !matches!(request.kind, Kind::Step | Kind::Look);
+    match fault {
+        Fault::SixTargets if !views && ticket.n > 6 => Some(Answer::Refused(7)),
+        Fault::NineNamed if views && (7..=9).contains(&ticket.n) && opens => {
+            Some(Answer::Refused(8))
+        }
+        _ => None,
+    }
+}
+
+/// Whether a field is out of range by the limits that legs and counts had before.
+fn beyond_1344(request: &Request) -> bool {
+    let before = |field: &crate::frames::Field| match field {
+        F | R | S | H => request.get(*field) > 1_344 || (*field == R && request.get(R) == 0),
+        C if request.in_hundredths().kind == Kind::Add => request.get(C) > 1_343,
+        C => !(1..=1_344).contains(&request.get(C)),
+        D => request.get(D) > 1_343,
+        _ => true,
+    };
+    request.muddled() || request.beyond().iter().any(before)
+}
+
+/// The targets of newer words by another rule.
+fn list_otherwise(fault: Fault, edit: &Request, ticket: &mut Ticket, ranks: &[i64]) {
+    let [f, r, s, h] = [F, R, S, H].map(|field| edit.get(field));
+    let of = |leg: i64| move |target: &Target| leg != 0 && target.word == newer_word(leg);
+    let strikes = matches!(edit.kind, Kind::Strike | Kind::Move);
+    let fronts = matches!(edit.kind, Kind::Add | Kind::Move);
+    let targets = &mut ticket.targets;
+    let mut sorted = true;
+    match (fault, edit.kind) {
+        (Fault::AddWithoutNewer, Kind::Add) => targets.retain(|target| !of(h)(target)),
+        (Fault::MoveWithoutNewer, Kind::Move) => targets.retain(|target| !of(h)(target)),
+        (Fault::NDropsZeroChange, _) if strikes && f == 0 => {
+            targets.retain(|target| !of(r)(target));
+        }
+        (Fault::NewerOfNone, _) if fronts && h == 0 => targets.push(Target {
+            word: newer_word(1),
+            quoted: Word::Value(0),
+            new: Word::Value(r),
+        }),
+        (Fault::NewerLast, _) => {
+            let ends = |target: &Target| (fronts && of(h)(target)) || (strikes && of(s)(target));
+            targets.sort_by_key(ends);
+            sorted = false;
+        }
+        _ => {}
+    }
+    for target in targets.iter_mut() {
+        match fault {
+            Fault::FrontQuoted if fronts && of(h)(target) => target.quoted = Word::Value(h),
+            Fault::OlderKeepsNewer if strikes && of(s)(target) => target.new = Word::Value(r),
+            Fault::OlderBecomesNewest if strikes && of(s)(target) => target.new = Word::Value(0),
+            Fault::NewerLeft if strikes && of(r)(target) => target.new = Word::Value(f),
+            Fault::NewerQuotesOlder if edit.kind == Kind::Move && of(r)(target) => {
+                target.quoted = Word::Value(s);
+            }
+            _ => {}
+        }
+    }
+    if sorted && edit.kind != Kind::View {
+        targets.sort_by_key(|target| position(ranks, target.word));
+    }
+    ticket.n = ticket.targets.len() as i64;
 }
 
 /// The refusal of a frame of another kind or length.
@@ -375,19 +516,29 @@ pub fn read(fault: Option<Fault>, place: u64, measure: u64) -> Option<Reading> {
 /// The bytes of scratch that a check with this fault wants.
 pub fn scratch(fault: Option<Fault>, right: i64) -> i64 {
     match fault {
-        Some(Fault::ScratchOf1344) => 1_344,
-        Some(Fault::ScratchOf169) => 169,
-        Some(Fault::ScratchOf167) => 167,
+        Some(Fault::ScratchOf168) => 168,
+        Some(Fault::ScratchOf127) => 127,
+        Some(Fault::ScratchOf125) => 125,
         _ => right,
     }
 }
 
+/// What a check with this fault wants in a word where it found this.
+pub fn wanted(fault: Option<Fault>, plain: &Plain, word: i64, right: i64, found: Word) -> Word {
+    match (fault, leg_of_newer(word)) {
+        (Some(Fault::NewerUnchecked), Some(_)) => found,
+        (Some(Fault::UnusedNewerUnchecked), Some(leg)) if plain.find(leg).is_none() => found,
+        (Some(Fault::NewerChecksOlder), Some(leg)) => Word::Value(plain.word(link_word(leg))),
+        _ => Word::Value(right),
+    }
+}
+
 /// A book as a check with this fault takes it.
-pub fn book(fault: Option<Fault>, book: &[Word]) -> Vec<Word> {
+pub fn book(fault: Option<Fault>, book: &[Word], rows: &Rows) -> Vec<Word> {
     let mut taken = book.to_vec();
     if fault == Some(Fault::PlumbReads) {
-        for word in taken.iter_mut().skip(64 + 2).step_by(3) {
-            *word = Word::of_bits(without_plumb_compass(word.bits()));
+        for measure in (1..=rows.last).map(|leg| (rows.link)(leg) as usize + 2) {
+            taken[measure] = Word::of_bits(without_plumb_compass(taken[measure].bits()));
         }
     }
     taken

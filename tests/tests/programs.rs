@@ -72,6 +72,15 @@ fn wrong_programs_are_told_apart() {
     {
         told_apart(fault);
     }
+    for fault in ["add-without-newer", "move-without-newer", "front-quoted", "older-keeps-newer"] {
+        told_apart(fault);
+    }
+    for fault in ["older-becomes-newest", "newer-left", "newer-quotes-older", "newer-of-none"] {
+        told_apart(fault);
+    }
+    for fault in ["n-drops-zero-change", "newer-last", "legs-to-1344", "six-targets"] {
+        told_apart(fault);
+    }
 }
 
 #[test]
@@ -113,6 +122,25 @@ fn the_stored_lent_calls_are_checked() {
     input.pop();
     std::fs::write(dir.join("stdin"), input).expect("written");
     assert!(!tests(&["lent", name, "--check"]).status.success());
+}
+
+#[test]
+fn the_stored_carry_overs_are_checked() {
+    let dir = folder("carried");
+    let name = dir.to_str().expect("a readable name");
+    assert!(tests(&["carried", name]).status.success());
+    let wrong = tests(&["carried", name, "--wrong", "carries-former-newer"]);
+    assert!(!wrong.status.success() && said(&wrong).contains("model:   word"), "{}", said(&wrong));
+    let wrong = tests(&["carried", name, "--wrong", "carry-15-after-16"]);
+    assert!(!wrong.status.success() && said(&wrong).contains("program: refused 16"));
+    assert!(said(&tests(&["carried", name, "--wrong", "no-such-fault"])).contains("usage"));
+    let output = std::fs::read_to_string(dir.join("stdout")).expect("stored");
+    std::fs::write(dir.join("stdout"), output.replacen("refused 14", "carried", 1))
+        .expect("written");
+    let checked = tests(&["carried", name, "--check"]);
+    assert!(!checked.status.success() && said(&checked).contains("program: carried"));
+    std::fs::write(dir.join("stdout"), output).expect("written");
+    assert!(tests(&["carried", name, "--check"]).status.success());
 }
 
 #[test]

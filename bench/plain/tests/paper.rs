@@ -140,9 +140,12 @@ fn examples_1_and_2_and_3() {
         [look(64), value(0)],
         [look(65), value(8_388_673)],
         [look(66), value(MEASURE)],
-        edit(add(0, 0, 1_344, 1, 1), 0, 5),
-        [look(4_093), value(1)],
-        [look(4_095), value(MEASURE)],
+        [look(67), value(0)],
+        edit(add(0, 0, 1_008, 1, 1), 0, 6),
+        [look(4_092), value(1)],
+        [look(4_094), value(MEASURE)],
+        [look(4_095), value(0)],
+        [look(67), value(1_008)],
     ]);
 }
 
@@ -199,7 +202,7 @@ fn plumb_legs_have_no_compass() {
             [look(66), value(MEASURE)],
             edit(correct_measure(M, shaft(1)), 0, 2),
             [look(66), stored.clone()],
-            edit(strike_measure(shaft(35_999)), 0, 5),
+            edit(strike_measure(shaft(35_999)), 0, 6),
             [look(66), value(0)],
             edit(add_measure(shaft(0)), 0, 5),
             [look(66), stored],
@@ -223,7 +226,7 @@ fn plumb_legs_have_no_compass() {
 fn a_plumb_leg_is_moved_as_it_is() {
     check(&[
         edit(add_measure(measure(500, DOWN)), 0, 5),
-        edit(move_leg(0, 0, 1, [0, 1, 0, 1], [0, 0]), 0, 6),
+        edit(move_leg(0, 0, 1, [0, 1, 0, 1], [0, 0]), 0, 7),
         [
             [look(65), look(66)].concat(),
             [value(place(1)), value(5_000)].concat(),
@@ -327,7 +330,7 @@ fn up_and_down_zero_mean_the_same() {
             edit(correct_measure(measure(1_250, 0), measure(1_250, 0)), 0, 2),
             edit(correct_minutes(level(sign), level(1 - sign)), 0, 2),
             [look(66), word(1_250, 0)],
-            edit(strike_measure(measure(1_250, 0)), 0, 5),
+            edit(strike_measure(measure(1_250, 0)), 0, 6),
         ]);
     }
 }
@@ -358,8 +361,8 @@ fn angles_are_rounded_to_the_nearest_hundredth() {
             let add = frame(&[&[17, 0, 0, leg, newest, newest, 1, 2], &m[..]].concat());
             let clino = nearest(steep, other) as i64;
             let signed = if down == 1 { -clino } else { clino };
-            pairs.push(edit(add, 0, 5));
-            pairs.push([look(63 + 3 * leg), word(nearest(degrees, minute), signed)]);
+            pairs.push(edit(add, 0, 5 + (newest != 0) as u16));
+            pairs.push([look(62 + 4 * leg), word(nearest(degrees, minute), signed)]);
             newest = leg;
         }
     }
@@ -379,7 +382,7 @@ fn an_edit_in_minutes_behaves_as_one_in_hundredths() {
         [look(66), value(MEASURE)],
         edit(correct_minutes(IN_MINUTES, third), 0, 2),
         [look(66), word(35_998, 8_998)],
-        edit(strike_measure(in_hundredths), 0, 5),
+        edit(strike_measure(in_hundredths), 0, 6),
         edit(add_measure(M), 0, 5),
         edit(correct_minutes(IN_MINUTES, third), 0, 2),
         // A hundredth that no minute is rounded to differs from those beside it.
@@ -407,7 +410,7 @@ fn plumb_legs_in_minutes_have_no_compass() {
             edit(correct_measure(measure(1, clino), M), 0, 2),
             edit(correct_minutes(IN_MINUTES, shaft([7, 7])), 0, 2),
             [look(66), stored],
-            edit(strike_measure(measure(35_999, clino)), 0, 5),
+            edit(strike_measure(measure(35_999, clino)), 0, 6),
         ]);
         // A minute less is no plumb leg.
         let steep = minutes([180, 0], sign, [89, 59]);
@@ -474,20 +477,20 @@ fn refusals_in_minutes() {
     pairs.extend([
         [add([0, 32, 1, 0, 0, 1, 2]), refused(10)],
         [add([0, 0, 0, 0, 0, 1, 2]), refused(10)],
-        [add([0, 0, 1_345, 0, 0, 1, 2]), refused(10)],
-        [add([0, 0, 1, 1_345, 0, 1, 2]), refused(10)],
-        [add([0, 0, 1, 0, 1_344, 1, 2]), refused(10)],
+        [add([0, 0, 1_009, 0, 0, 1, 2]), refused(10)],
+        [add([0, 0, 1, 1_009, 0, 1, 2]), refused(10)],
+        [add([0, 0, 1, 0, 1_008, 1, 2]), refused(10)],
         [add([0, 0, 1, 0, 0, 2, 2]), refused(11)],
         [add([0, 0, 1, 1, 0, 1, 2]), refused(11)],
         [correct([0, 32, 1, 1, 2]), refused(10)],
         [correct([0, 0, 0, 1, 2]), refused(10)],
-        [correct([0, 0, 1_345, 1, 2]), refused(10)],
+        [correct([0, 0, 1_009, 1, 2]), refused(10)],
         [correct([0, 0, 1, 2, 2]), refused(11)],
         // A team with a ticket: 8 before 10 and 11.
-        [add([9, 31, 1_344, 1_343, 1_343, 1, 2]), frame(&[128, 5])],
+        [add([9, 31, 1_008, 1_007, 1_007, 1, 2]), frame(&[128, 6])],
         [add([9, 32, 1, 0, 0, 1, 2]), refused(8)],
         [correct([9, 0, 1, 2, 2]), refused(8)],
-        [correct([8, 31, 1_344, 1, 2]), frame(&[128, 2])],
+        [correct([8, 31, 1_008, 1, 2]), frame(&[128, 2])],
     ]);
     check(&pairs);
 }
@@ -527,7 +530,7 @@ fn waits_are_tries() {
         [correct(3, 0, 1), frame(&[128, 2])],
         [step(3), claimed(1)],
         // A move of leg 1 waits at its place, and is granted after the correction.
-        [move_leg(4, 0, 1, [0, 1, 0, 1], [0, 0]), frame(&[128, 6])],
+        [move_leg(4, 0, 1, [0, 1, 0, 1], [0, 0]), frame(&[128, 7])],
         [step(4).repeat(5), (1..=5).flat_map(claimed).collect()],
         [step(4).repeat(2), frame(&[130, 65, 3]).repeat(2)],
         [step(3), claimed(2)],
@@ -535,8 +538,9 @@ fn waits_are_tries() {
         [step(3), put(1)],
         [step(4), claimed(6)],
         [step(3), granted(4)],
-        [step(4).repeat(5), (1..=5).flat_map(put).collect()],
-        [step(4), granted(15)],
+        [step(4), claimed(7)],
+        [step(4).repeat(6), (1..=6).flat_map(put).collect()],
+        [step(4), granted(17)],
         [
             [look(0), look(1), look(2), look(3)].concat(),
             [value(0), value(0), value(1), value(1)].concat(),
@@ -552,11 +556,16 @@ fn waits_are_tries() {
 fn edits_at_both_ends_and_amid() {
     check(&[
         edit(add(0, 5, 20, 0, 0), 0, 5),
-        edit(add(1, 5, 10, 20, 1), 1, 5),
-        edit(add(2, 5, 30, 10, 2), 2, 5),
+        edit(add(1, 5, 10, 20, 1), 1, 6),
+        edit(add(2, 5, 30, 10, 2), 2, 6),
         edit(add(15, 6, 40, 0, 0), 15, 5),
+        // The next newer leg of each.
+        [
+            [look(143), look(103), look(183), look(223)].concat(),
+            [value(10), value(30), value(0), value(0)].concat(),
+        ],
         // 30, 10, 20: the middle one goes to passage 6.
-        edit(move_leg(0, 5, 6, [30, 10, 20, 3], [40, 1]), 0, 6),
+        edit(move_leg(0, 5, 6, [30, 10, 20, 3], [40, 1]), 0, 9),
         [
             [look(10), look(11)].concat(),
             [value(30), value(2)].concat(),
@@ -566,27 +575,31 @@ fn edits_at_both_ends_and_amid() {
             [value(10), value(2)].concat(),
         ],
         [
-            [look(151), look(91), look(121)].concat(),
+            [look(180), look(100), look(140)].concat(),
             [value(20), value(40), value(0)].concat(),
         ],
-        [look(92), value(place(6))],
-        // The oldest is struck, behind a larger number; then the newest.
-        edit(strike(7, 5, 30, 20, 0, 2), 7, 5),
         [
-            [look(121), look(122), look(123), look(151)].concat(),
-            value(0).repeat(4),
+            [look(143), look(103), look(183), look(223)].concat(),
+            [value(30), value(0), value(0), value(10)].concat(),
         ],
-        edit(strike(7, 5, 0, 30, 0, 1), 7, 5),
+        [look(101), value(place(6))],
+        // The oldest is struck, behind a larger number; then the newest.
+        edit(strike(7, 5, 30, 20, 0, 2), 7, 6),
         [
-            [look(10), look(11), look(151), look(152), look(153)].concat(),
+            [look(140), look(141), look(142), look(143), look(180)].concat(),
+            value(0).repeat(5),
+        ],
+        edit(strike(7, 5, 0, 30, 0, 1), 7, 6),
+        [
+            [look(10), look(11), look(180), look(181), look(182)].concat(),
             value(0).repeat(5),
         ],
         // A quoted figure that isn't so.
-        [strike(7, 6, 0, 10, 40, 3), frame(&[128, 5])],
+        [strike(7, 6, 0, 10, 40, 3), frame(&[128, 7])],
         [step(7), frame(&[129, 1])],
         [step(7), frame(&[131, 13])],
         [step(7), stale(13, 3)],
-        [strike(7, 6, 0, 40, 0, 2), frame(&[128, 5])],
+        [strike(7, 6, 0, 40, 0, 2), frame(&[128, 6])],
         [step(7), stale(12, 1)],
         [
             [look(12), look(13)].concat(),
@@ -678,15 +691,15 @@ fn opposite_moves_go_by_position() {
     check(&[
         edit(add(0, 0, 1, 0, 0), 0, 5),
         edit(add(0, 25, 2, 0, 0), 0, 5),
-        [move_leg(0, 0, 25, [0, 1, 0, 1], [2, 1]), frame(&[128, 6])],
-        [move_leg(1, 25, 0, [0, 2, 0, 1], [1, 1]), frame(&[128, 6])],
+        [move_leg(0, 0, 25, [0, 1, 0, 1], [2, 1]), frame(&[128, 8])],
+        [move_leg(1, 25, 0, [0, 2, 0, 1], [1, 1]), frame(&[128, 8])],
         [step(0), frame(&[129, 1])],
         [
             [look(0), look(50), look(51)].concat(),
             [value(1), frame(&[137]), value(1)].concat(),
         ],
         [step(1), frame(&[130, 50, 0])],
-        [step(0).repeat(11), through(0, 6)[1][12..].to_vec()],
+        [step(0).repeat(15), through(0, 8)[1][12..].to_vec()],
         [step(1), stale(50, 2)],
         [
             [look(50), look(51), look(0), look(1)].concat(),
@@ -742,15 +755,15 @@ fn refusals() {
         // add: kind team p r h c from to M
         with(add(0, 0, 1, 0, 0), 2, 32),
         with(add(0, 0, 1, 0, 0), 3, 0),
-        with(add(0, 0, 1, 0, 0), 3, 1_345),
-        with(add(0, 0, 1, 0, 0), 4, 1_345),
-        with(add(0, 0, 1, 0, 0), 5, 1_344),
+        with(add(0, 0, 1, 0, 0), 3, 1_009),
+        with(add(0, 0, 1, 0, 0), 4, 1_009),
+        with(add(0, 0, 1, 0, 0), 5, 1_008),
         eleven(at(add(0, 0, 1, 0, 0), 6, 2)),
         eleven(add(0, 0, 1, 1, 0)),
         // correct: kind team p r from to M M
         with(correct(0, 0, 1), 2, 32),
         with(correct(0, 0, 1), 3, 0),
-        with(correct(0, 0, 1), 3, 1_345),
+        with(correct(0, 0, 1), 3, 1_009),
         with(correct(0, 0, 1), 6, 0),
         with(correct(0, 0, 1), 8, 36_000),
         with(correct(0, 0, 1), 9, 9_001),
@@ -760,12 +773,12 @@ fn refusals() {
         eleven(at(correct(0, 0, 1), 4, 2)),
         // strike: kind team p f r s c from to M
         with(good_strike(), 2, 32),
-        with(good_strike(), 3, 1_345),
+        with(good_strike(), 3, 1_009),
         with(good_strike(), 4, 0),
-        with(good_strike(), 4, 1_345),
-        with(good_strike(), 5, 1_345),
+        with(good_strike(), 4, 1_009),
+        with(good_strike(), 5, 1_009),
         with(good_strike(), 6, 0),
-        with(good_strike(), 6, 1_345),
+        with(good_strike(), 6, 1_009),
         with(good_strike(), 9, 0),
         eleven(at(good_strike(), 7, 2)),
         eleven(at(good_strike(), 3, 3)),
@@ -774,14 +787,14 @@ fn refusals() {
         // move: kind team p q f r s c h d from to
         with(good_move(), 2, 32),
         with(good_move(), 3, 32),
-        with(good_move(), 4, 1_345),
+        with(good_move(), 4, 1_009),
         with(good_move(), 5, 0),
-        with(good_move(), 5, 1_345),
-        with(good_move(), 6, 1_345),
+        with(good_move(), 5, 1_009),
+        with(good_move(), 6, 1_009),
         with(good_move(), 7, 0),
-        with(good_move(), 7, 1_345),
-        with(good_move(), 8, 1_345),
-        with(good_move(), 9, 1_344),
+        with(good_move(), 7, 1_009),
+        with(good_move(), 8, 1_009),
+        with(good_move(), 9, 1_008),
         eleven(at(good_move(), 10, 2)),
         eleven(at(good_move(), 3, 0)),
         eleven(at(good_move(), 4, 3)),
@@ -800,16 +813,16 @@ fn refusals() {
     // The ends of the ranges are in range, and none may be named often.
     let standing = |n: u16| frame(&[128, n]);
     pairs.extend([
-        [add(0, 31, 1_344, 1_343, 1_343), standing(5)],
-        [correct(1, 31, 1_344), standing(2)],
-        [strike(2, 31, 0, 1_344, 0, 1_344), standing(5)],
+        [add(0, 31, 1_008, 1_007, 1_007), standing(6)],
+        [correct(1, 31, 1_008), standing(2)],
+        [strike(2, 31, 0, 1_008, 0, 1_008), standing(6)],
         [
-            move_leg(3, 31, 0, [0, 1_344, 0, 1_344], [0, 1_343]),
-            standing(6),
+            move_leg(3, 31, 0, [0, 1_008, 0, 1_008], [0, 1_007]),
+            standing(7),
         ],
         [
-            move_leg(4, 0, 31, [1_344, 1, 1_343, 1], [1_342, 0]),
-            standing(6),
+            move_leg(4, 0, 31, [1_008, 1, 1_007, 1], [1_006, 0]),
+            standing(9),
         ],
     ]);
     check(&pairs);

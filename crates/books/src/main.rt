@@ -5,9 +5,9 @@
 // the line ends with ` spoiled`.
 ghost use Prim.Native.Nat.{_+_, _≤_, _<_};
 ghost use lib.ListN.{length};
+use desk::Given;
 use desk::Room;
 use desk::at_most;
-use desk::read64;
 use desk::say;
 use frames::numbers::read16;
 use libc::STDIN_FILENO;
@@ -30,39 +30,11 @@ impl Sector {
     const MIXED: u8 = 165;
 }
 
-// The bytes of a case: those before the words given, and those of each word given.
+// The bytes of a case before the words given.
 struct Case {}
 
 impl Case {
     const HEAD: usize = 6;
-
-    const GIVEN: usize = 10;
-}
-
-fn clear(book: &mut [u64]) {
-    let mut i: usize = 0;
-    while i < book.len() {
-        book[i] = 0;
-        i += 1;
-    }
-}
-
-// A word that the book doesn't have is passed over.
-fn set_word(book: &mut [u64], word: usize, value: u64) {
-    if book.len() <= word {
-        return;
-    }
-    book[word] = value;
-}
-
-fn set_words(book: &mut [u64], given: &[u8]) {
-    let mut at: usize = 0;
-    while Case::GIVEN <= given.len() - at {
-        let word = read16(given, at);
-        let value = read64(given, at + 2);
-        set_word(book, word as usize, value);
-        at += Case::GIVEN;
-    }
 }
 
 fn tell(answer: Checked) {
@@ -137,8 +109,8 @@ fn check_case(words: &mut [u64], sector: &mut [u8], case: &[u8], filling: u8)
     let lent = at_most(read16(case, 0) as usize, Sector::MOST_LENT);
     let book_words = at_most(read16(case, 2) as usize, Room::WORDS);
     let book = &mut words[0..book_words];
-    clear(book);
-    set_words(book, &case[Case::HEAD..]);
+    desk::fill_words(book, 0);
+    desk::set_words(book, &case[Case::HEAD..]);
     check_book(book, sector, lent, filling);
 }
 
@@ -150,7 +122,7 @@ fn first_case(rest: &[u8]) -> usize
         return 0;
     }
     let given = read16(rest, 4);
-    let count = Case::HEAD + Case::GIVEN * (given as usize);
+    let count = Case::HEAD + Given::BYTES * (given as usize);
     if rest.len() < count {
         return 0;
     }

@@ -127,7 +127,7 @@ in-turn = refl
 
 -- Heard by hand: a load that went while a ticket is noted is out of turn, and one that was refused is passed over.
 abbrev heardLoad : ℕ → List Heard
-heardLoad number = heardAs (Open 0 moving) (Answer.Standing 6) ∷ record { call = loading turned; returned = number; output = [] } ∷ []
+heardLoad number = heardAs (Open 0 moving) (Answer.Standing 7) ∷ record { call = loading turned; returned = number; output = [] } ∷ []
 
 out-of-turn : notesOn (heardLoad 0) .outOfTurn ∷ notesOn (heardLoad 14) .outOfTurn ∷ [] ≡ 1 ∷ 0 ∷ []
 unfolding everyLoad

@@ -10,7 +10,7 @@ use Rattle.frames.specs.Numbers.{numbers64}
 use Rattle.frames.specs.Answers.{answerFrame, longestAnswer}
 use Rattle.frames.specs.Reading.{answerIn}
 use Rattle.frames.specs.Writing.{requestFrame}
-use Rattle.plain.specs.Plain.{Plain, NumberedLeg, findBelow, wordOf, legsBelow}
+use Rattle.plain.specs.Plain.{Plain, NumberedLeg, findBelow, wordIn, wordOf, legsBelow}
 use Rattle.plain.specs.Editing.{succeeds, perform, attempt}
 use Rattle.calls.specs.Run.{Call, framed, Heard, answerHeard, runFrom}
 use Rattle.calls.specs.Order.{finished, wasFilled, notedBelow, notesFrom, holds}
@@ -19,7 +19,7 @@ use Rattle.calls.specs.Bench.{stations}
 use Rattle.calls.proofs.Computing.{everything}
 
 unfoldable pub everyRun : Unit {0}
-unfolding everything numbers64 answerIn findBelow wordOf legsBelow succeeds perform attempt answerHeard runFrom finished wasFilled notedBelow notesFrom holds playFrom grantedOf hasBack untilBack sinceBack
+unfolding everything numbers64 answerIn findBelow wordIn legsBelow succeeds perform attempt answerHeard runFrom finished wasFilled notedBelow notesFrom holds playFrom grantedOf hasBack untilBack sinceBack
 everyRun = tt
 
 -- A call for each request, with an output of 52 bytes.

@@ -6,16 +6,16 @@ use mathlib.Core.List.{List, [], _∷_, _++_, map}
 use mathlib.Core.Logic.{inl, inr}
 use mathlib.Core.Option.{Option, none, some}
 use native.Mathlib.Omega.{arith}
-use lib.Dec.{eqb, ltb, lit<}
+use lib.Dec.{eqb, leb, ltb, lit<}
 use lib.ListN.{length, drop, replicate, length-map}
 use lib.Seq.{drop-at}
-use borrow.Author.Tests.{ltb-true, not-false, lt-ltb, leb-false}
+use borrow.Author.Tests.{leb-true, ltb-true, not-false, lt-ltb, leb-false}
 use Rattle.words.specs.Tests.{allHold, within}
 use Rattle.words.specs.Words.{Words, isHeld, nobody, holderOf, mostNamed, readOf, teamCount}
-use Rattle.words.proofs.Tests.{AllTrue, join}
+use Rattle.words.proofs.Tests.{AllTrue, split, join}
 use Rattle.tickets.specs.declared.Target.{Target}
 use Rattle.tickets.specs.declared.Phase.the-variants.{Claiming, Putting, GivingBack, Viewing, Viewed}
-use Rattle.tickets.specs.Tickets.{Ticket, Tickets, targetAt, targetsIn, namedIn, ticketOf, hasTicket, targetWellMade, allWellMade, wellMade}
+use Rattle.tickets.specs.Tickets.{Ticket, Tickets, targetAt, targetsIn, namedIn, ticketOf, hasTicket, mostOf, targetWellMade, allWellMade, wellMade}
 use Rattle.legs.specs.Positions.{Ranks}
 use Rattle.tickets.specs.declared.StepAnswer.the-variants.{Waiting, Stale, Seen}
 use Rattle.tickets.specs.declared.LookAnswer.the-variants.{Value, Held}
@@ -83,7 +83,7 @@ holder-fits found = by (isHeld found) (ltb (found - 2 ^ 63) teamCount) refl
     by true false is = lit< tt
     by false team is = lit< tt
 
--- A step of a well-made ticket: words are below 4,096, counts at most six, tries of 32 bits.
+-- A step of a well-made ticket: words are below 4,096, counts at most nine, tries of 32 bits.
 module _ (ticket : Ticket) (well : wellMade ticket ≡ true) (tries : ticket .tries ≤ mostTries) where
   Fits : Stepped → Type 0
   Fits step = stepAnswerFits (step .answer) ≡ true
@@ -103,18 +103,20 @@ module _ (ticket : Ticket) (well : wellMade ticket ≡ true) (tries : ticket .tr
   stale-fits : (k : ℕ) → k < ticket .n → stepAnswerFits (Stale (targetAt ticket k .word) (oneMoreTry (ticket .tries))) ≡ true
   stale-fits k below = join (ltb (targetAt ticket k .word) 65536 ∷ ltb (oneMoreTry (ticket .tries)) 4294967296 ∷ []) (word-fits k below, (tries-fit, tt))
 
-  seen-fits : stepAnswerFits (Seen (valuesSeen ticket)) ≡ true
-  seen-fits =
+  seen-fits : ticket .phase ≡ Viewed → stepAnswerFits (Seen (valuesSeen ticket)) ≡ true
+  seen-fits viewed =
       let parts = well-made-parts ticket well in
+      let number : within 1 mostNamed (ticket .n) ≡ true = subst (λ phase. within 1 (mostOf phase) (ticket .n) ≡ true) viewed (parts .many) in
+      let (least, (most, u)) = split (leb 1 (ticket .n) ∷ leb (ticket .n) mostNamed ∷ []) number in
       let values = valuesNamed ticket in
       let zeros : List ℕ = replicate (mostNamed - length values) 0 in
       let many : length values ≡ ticket .n = length-map (namedIn ticket) (valueNoted (targetsIn ticket)) ∙ length-map (targetsIn ticket) (λ one. one .new) ∙ length-targets ticket in
-      let room = values-in-room (ticket .n) values (omega (arith, many, made ticket well .most)) in
+      let room = values-in-room (ticket .n) values (omega (arith, many, leb-true (ticket .n) mostNamed most)) in
       let fit = join (map fits64 (inRoom values)) (values-fit (valueNoted (targetsIn ticket)) (λ word. value-small (targetsIn ticket) word (parts .targets)) (namedIn ticket) (mostNamed - length values)) in
       let none-behind = ap allZero (drop-at values zeros (ticket .n) many) ∙ join (map (eqb 0) zeros) (zeros-zero (mostNamed - length values)) in
       let in-room = valuesOf (valuesSeen ticket) in
       join (within 1 mostNamed (ticket .n) ∷ allHold (map fits64 in-room) ∷ allZero (drop (ticket .n) in-room) ∷ [])
-      (parts .many, (ap (λ (l : List ℕ). allHold (map fits64 l)) room ∙ fit, (ap (λ (l : List ℕ). allZero (drop (ticket .n) l)) room ∙ none-behind, tt)))
+      (number, (ap (λ (l : List ℕ). allHold (map fits64 l)) room ∙ fit, (ap (λ (l : List ℕ). allZero (drop (ticket .n) l)) room ∙ none-behind, tt)))
 
   settled-fits : (found : ℕ) → Outcome ticket found → Fits (settled ticket found)
   unfolding Fits
@@ -141,7 +143,7 @@ module _ (ticket : Ticket) (well : wellMade ticket ≡ true) (tries : ticket .tr
   settled-fits found (view-returns-one viewed more settles) =
       let (below, all) = counts-in ticket Viewed viewed well in
       subst Fits (sym settles) (count-fits (ticket .done + 1) (omega arith))
-  settled-fits found (view-returns-last viewed last settles) = subst Fits (sym settles) seen-fits
+  settled-fits found (view-returns-last viewed last settles) = subst Fits (sym settles) (seen-fits viewed)
 
   step-fits : (words : Words) (team : ℕ) → hasTicket (ticket .phase) ≡ true → stepAnswerFits (stepOf words ticket team .0 .answer) ≡ true
   unfolding Fits

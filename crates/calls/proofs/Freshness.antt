@@ -7,10 +7,11 @@ use Prim.Native.Nat.{ℕ, zero, suc, _+_, _-_, _/_, _%_, _≤_, zero-le}
 use native.Mathlib.Omega.{arith}
 use lib.Dec.{eqb, ltb}
 use lib.ListN.{getD, replicate, length-replicate}
-use Rattle.words.specs.Words.{firstLegWord, passageCount, teamCount}
+use Rattle.words.specs.declared.LegLayout.the-variants.{FourWords}
+use Rattle.words.specs.Words.{firstLegWord, legWords, passageCount, teamCount}
 use Rattle.tickets.specs.Tickets.{noTicket, ticketOf, freshTickets}
 use Rattle.tickets.specs.declared.Phase.the-variants.{NoTicket}
-use Rattle.plain.specs.Plain.{Plain, NumberedLeg, freshPlain, listOf, findBelow, find, passageWord, legWord, wordOf, legsBelow, legsInBook}
+use Rattle.plain.specs.Plain.{Plain, NumberedLeg, freshPlain, listOf, findBelow, find, passageWord, legWord, wordIn, wordOf, legsBelow, legsInBook}
 use Rattle.tickets.specs.Steps.{mostTries}
 use Rattle.calls.specs.Demand1.{TableFits}
 
@@ -29,11 +30,11 @@ module _ (plain : Plain) (empty : (passage : ℕ) → listOf plain passage ≡ [
   passage-zero which passage = rw (empty passage) (either-way (eqb which 0) 0)
 
   leg-zero : (which r : ℕ) → legWord which (find plain r) ≡ 0
-  leg-zero which r = ap (legWord which) (none-found passageCount r) ∙ ap (cond (eqb which 0) 0) (either-way (eqb which 1) 0) ∙ either-way (eqb which 0) 0
+  leg-zero which r = ap (legWord which) (none-found passageCount r) ∙ ap (λ (rest : ℕ). cond (eqb which 0) 0 (cond (eqb which 1) 0 rest)) (either-way (eqb which 2) 0) ∙ ap (cond (eqb which 0) 0) (either-way (eqb which 1) 0) ∙ either-way (eqb which 0) 0
 
   pub words-zero : (word : ℕ) → wordOf plain word ≡ 0
-  unfolding wordOf
-  words-zero word = rw (passage-zero (word % 2) (word / 2), leg-zero ((word - firstLegWord) % 3) ((word - firstLegWord) / 3 + 1)) (either-way (ltb word firstLegWord) 0)
+  unfolding wordIn
+  words-zero word = rw (passage-zero (word % 2) (word / 2), leg-zero ((word - firstLegWord) % legWords FourWords) ((word - firstLegWord) / legWords FourWords + 1)) (either-way (ltb word firstLegWord) 0)
 
   pub no-legs : (n : ℕ) → legsBelow n plain ≡ 0
   unfolding legsBelow

@@ -54,6 +54,7 @@ module _ (ranks : Ranks) (edit : Edit) (fine : Fine edit) where
         subst (Claimable size) (sym (opened-tickets-hold-targets ranks edit))
         (subst (λ size. Claimable size (storedTargets ranks edit)) (sym whole) (stored-targets-claimable ranks edit (fine .allowed) (fine .stations)));
     names = λ view. absurd (false≢true view);
+    few = λ view. absurd (false≢true view);
     room = λ view. absurd (false≢true view);
   }
 
@@ -77,6 +78,7 @@ module _ (ranks : Ranks) (words : List ℕ) (fine : FineView words) where
     none-done = refl;
     claimable = subst (λ size. Claimable size (targetsIn (openedView ranks words))) (sym whole) (view-targets-claimable ranks words fine);
     names = λ view. ap (λ names. namesWellMade names (wordsIn (openedView ranks words))) (opened .names) ∙ ap (namesWellMade words) (opened .targets) ∙ opened .in-some-order;
+    few = λ view. omega (arith, opened .many, fine .most);
     room = λ view. let quoted : List ℕ = map (λ one. one .quoted) (viewTargets ranks words) in
         omega (arith, length-append quoted (replicate (mostTargets - length quoted) 0), length-map (viewTargets ranks words) (λ one. one .quoted));
   }

@@ -29,7 +29,7 @@ book = replicate wordsInBook 0
 abbrev pub out : Bytes
 out = replicate longestAnswer 7
 
--- A damaged ticket: of seven targets; or one that gives back as many as it has.
+-- A damaged ticket: of ten targets; or one that gives back as many as it has.
 abbrev pub damaged : Phase → ℕ → ℕ → Ticket
 damaged phase n claimed = record {
   quoted = replicate mostTargets 0;
@@ -42,8 +42,8 @@ damaged phase n claimed = record {
   phase = phase;
 }
 
-abbrev pub sevenTargets : Ticket
-sevenTargets = damaged Claiming 7 0
+abbrev pub tenTargets : Ticket
+tenTargets = damaged Claiming 10 0
 
 abbrev pub allClaimed : Ticket
 allClaimed = damaged GivingBack 2 2
@@ -73,10 +73,10 @@ refusals-1-13-2 = refl
 
 -- 7, and before 8, 10 and 11; 8 before 10 and 11; 9; another team's damaged ticket is nothing to a team.
 refusals-7-to-9 :
-    refusalOf book (withTicket freshTickets 0 sevenTargets) fixedRanks (requestFrame (Step 0)) out
+    refusalOf book (withTicket freshTickets 0 tenTargets) fixedRanks (requestFrame (Step 0)) out
     ∷ refusalOf book (withTicket freshTickets 0 allClaimed) fixedRanks (requestFrame (Open 0 bothFaults)) out
     ∷ refusalOf book (withTicket freshTickets 0 (openedTicket fixedRanks repeats)) fixedRanks (requestFrame (Open 0 bothFaults)) out
-    ∷ refusalOf book (withTicket freshTickets 0 sevenTargets) fixedRanks (requestFrame (Step 1)) out
+    ∷ refusalOf book (withTicket freshTickets 0 tenTargets) fixedRanks (requestFrame (Step 1)) out
     ∷ []
     ≡ map some (7 ∷ 7 ∷ 8 ∷ 9 ∷ [])
 unfolding everything

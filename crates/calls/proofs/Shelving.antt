@@ -12,6 +12,7 @@ use lib.Dec.{eqb, ltb}
 use lib.ListN.{length, getD, set, take, drop, length-append, length-drop, length-set, List·getD-eq-default}
 use lib.Seq.{length-take-le, getD-append-add, getD-take, getD-drop, getD-set-same, getD-set-other}
 use borrow.Author.Tests.{eq-eqb, ne-eqb, eqb-true, ltb-true, not-false}
+use Rattle.words.specs.declared.LegLayout.the-variants.{FourWords}
 use Rattle.words.specs.Words.{Words, wordsInBook, shelfCount, wordsInStore, teamCount, readOf}
 use Rattle.words.specs.Tests.{someHolds}
 use Rattle.tickets.specs.declared.Phase.{Phase}
@@ -322,7 +323,7 @@ module _ (shared : Shared) (n : Notes) (table : TableFits (shared .tickets)) (go
           fit = λ team. inl (phase-none (ticketOf (shared .tickets) team .phase) (empty team));
           held = λ team word value holds. absurd (true≢false (sym (holds .stands) ∙ empty team));
           free = λ word inside small. was .words word (below word inside);
-          owned = λ word inside large. absurd (omega (arith, large, was .words word (below word inside), words-are-values kept (was .sound) word (below word inside)));
+          owned = λ word inside large. absurd (omega (arith, large, was .words word (below word inside), words-are-values FourWords kept (was .sound) word (below word inside)));
         }
 
     comes-back : CameBackWell theStore none

@@ -24,7 +24,7 @@ use Rattle.edits.specs.declared.Edit.the-variants as Edit
 use Rattle.edits.specs.Opened.{targetCount, openedTicket}
 use Rattle.edits.specs.Ordering.{listedCount}
 use Rattle.edits.specs.Views.{openedView}
-use Rattle.edits.proofs.Stored.{targets-counted}
+use Rattle.edits.proofs.Stored.{targets-counted, one-most}
 use Rattle.legs.specs.Positions.{Ranks}
 use Rattle.frames.specs.Request.{Request, Open, Step, Look, View}
 use Rattle.frames.specs.Requests.{requestIn}
@@ -61,12 +61,12 @@ step-fits : (words : Words) (ticket : Ticket) (team : ℕ) → hasTicket (ticket
 step-fits words ticket team stands fits =
     told-fits (oneMoreTry (ticket .tries)) (stepOf words ticket team .0 .answer) (stepOf words ticket team .0 .ticket) (one-more-fits (ticket .tries) fits) (tries-counted words ticket team stands)
 
--- No edit has more than six targets.
+-- No edit has more targets than a ticket has room for.
 listed-most : (edit : Edit) → listedCount edit ≤ mostTargets
-listed-most (Edit.Add e) = omega arith
+listed-most (Edit.Add e) = omega (arith, one-most (e .newest))
 listed-most (Edit.Correct e) = omega arith
-listed-most (Edit.Strike e) = omega arith
-listed-most (Edit.Move e) = omega arith
+listed-most (Edit.Strike e) = omega (arith, one-most (e .older))
+listed-most (Edit.Move e) = omega (arith, one-most (e .older), one-most (e .«into_newest»))
 
 pub count-most : (edit : Edit) → targetCount edit ≤ mostTargets
 count-most edit = let (counted, stored) = targets-counted [] edit in omega (arith, listed-most edit)

@@ -43,7 +43,7 @@ view-shows : {size : ℕ} (ticket : Ticket) (plain : ℕ → ℕ) (words : List 
     → valuesShown (valuesSeen ticket) ≡ map plain words
 view-shows {size} ticket plain words fit view names matches =
     let many : length (valuesNamed ticket) ≡ ticket .n = length-map (namedIn ticket) _ ∙ length-map (targetsIn ticket) (λ one. one .new) ∙ length-targets ticket in
-    let most : length (valuesNamed ticket) ≤ 6 = omega (arith, fit .claimable .most, length-targets ticket) in
+    let most : length (valuesNamed ticket) ≤ 6 = omega (arith, fit .few view, many) in
     ap (λ n. take n (valuesOf (valuesSeen ticket))) (sym many) ∙ all-shown (valuesNamed ticket) most ∙ values-named size ticket plain fit view matches ∙ ap (map plain) names
 
 -- A step of a view of which this was heard.

@@ -5,7 +5,7 @@ use mathlib.Core.List.{List, [], _∷_, _++_, map}
 use lib.ListN.{replicate}
 use lib.IntN.{ℤ, pos, negsuc}
 use Rattle.words.specs.Tests.{Every}
-use Rattle.words.specs.Words.{measureWord, lastLeg}
+use Rattle.words.specs.Words.{newerWord}
 use Rattle.legs.specs.Positions.{positionOf}
 use Rattle.legs.specs.declared.Stations.{Stations}
 use Rattle.legs.specs.declared.Measure.{Measure}
@@ -53,8 +53,8 @@ table =
     -- 1, 2: that leg's measure and place
     figure (measureOf thatMeasure) 76022100792200
     ∷ figure (placeOf 0 stations) 8388673
-    -- 3: leg 1,344 ends at word 4,095
-    ∷ figure (measureWord lastLeg) 4095
+    -- 3: leg 1,008 ends at word 4,095
+    ∷ figure (newerWord 1008) 4095
     -- 4: clino −9,000 adds 0
     ∷ figure (clinoOffset (negsuc 8999)) 0
     -- 5: clino 9,001

@@ -12,8 +12,7 @@ use borrow.Author.Tests.{eq-eqb, ne-eqb}
 use Rattle.words.specs.Tests.{allHold, distinct}
 use Rattle.words.specs.Words.{wordsInBook, mostNamed}
 use Rattle.words.proofs.Numbers.{next-number, no-number-left}
-use Rattle.tickets.specs.Tickets.{padded}
-use Rattle.edits.specs.Views.{allInBook, viewInRange, viewRepeats}
+use Rattle.edits.specs.Views.{allInBook, viewInRange, viewRepeats, paddedNames}
 use Rattle.frames.specs.declared.Reading.the-variants as Reading
 use Rattle.frames.specs.declared.ViewRead.{ViewRead}
 use Rattle.frames.specs.Numbers.{Bytes, number16, numbers16}
@@ -33,7 +32,7 @@ another16 (suc many) bytes at =
     (another16 many bytes (at + 2) ∙ ap (λ (k : ℕ). numbers16 many bytes (at + 2) ++ (number16 bytes k ∷ [])) there)
 
 -- A number put where the zeros begin.
-put-next : (before : List ℕ) (k number : ℕ) → length before ≡ k → k < mostNamed → set (padded before) k number ≡ padded (before ++ (number ∷ []))
+put-next : (before : List ℕ) (k number : ℕ) → length before ≡ k → k < mostNamed → set (paddedNames before) k number ≡ paddedNames (before ++ (number ∷ []))
 put-next before k number size room =
     let free : mostNamed - length before ≡ suc (mostNamed - (k + 1)) = omega arith in
     let long : length (before ++ (number ∷ [])) ≡ k + 1 = length-append before (number ∷ []) ∙ ap (λ (i : ℕ). i + 1) size in
@@ -43,12 +42,12 @@ put-next before k number size room =
     ∙ ap (λ (i : ℕ). (before ++ (number ∷ [])) ++ replicate (mostNamed - i) 0) (sym long)
 
 -- One more word of a view, after k of them.
-pub word-read : (part : Bytes) (k word : ℕ) → k < mostNamed → word ≡ number16 part (4 + 2 * k) → set (padded (numbers16 k part 4)) k word ≡ padded (numbers16 (k + 1) part 4)
+pub word-read : (part : Bytes) (k word : ℕ) → k < mostNamed → word ≡ number16 part (4 + 2 * k) → set (paddedNames (numbers16 k part 4)) k word ≡ paddedNames (numbers16 (k + 1) part 4)
 word-read part k word room is =
     put-next (numbers16 k part 4) k word (length-numbers16 k part 4) room
-    ∙ ap (λ (v : ℕ). padded (numbers16 k part 4 ++ (v ∷ []))) is
-    ∙ ap padded (sym (another16 k part 4))
-    ∙ ap (λ (i : ℕ). padded (numbers16 i part 4)) (sym (add-one k))
+    ∙ ap (λ (v : ℕ). paddedNames (numbers16 k part 4 ++ (v ∷ []))) is
+    ∙ ap paddedNames (sym (another16 k part 4))
+    ∙ ap (λ (i : ℕ). paddedNames (numbers16 i part 4)) (sym (add-one k))
 
 -- A view's words are as many as there is room for.
 pub many-words : (part : Bytes) (n : ℕ) → length part ≡ 4 + 2 * n → (length part - 4) / 2 ≡ n
@@ -72,7 +71,7 @@ miscounted part is other =
     simp (ne-eqb (number16 part 2) (length (viewWordsIn part)) (λ same. other (is ∙ same ∙ length-numbers16 ((length part - 4) / 2) part 4)))
 
 -- Where it is, and the words stand in their room, zeros behind them:
-module _ (part : Bytes) {n : ℕ} {room : List ℕ} (is : n ≡ number16 part 2) (same : n ≡ (length part - 4) / 2) (held : room ≡ padded (viewWordsIn part)) where
+module _ (part : Bytes) {n : ℕ} {room : List ℕ} (is : n ≡ number16 part 2) (same : n ≡ (length part - 4) / 2) (held : room ≡ paddedNames (viewWordsIn part)) where
   abbrev many : ℕ
   many = (length part - 4) / 2
 

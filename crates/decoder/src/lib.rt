@@ -5,9 +5,8 @@ ghost use mathlib.Core.List.{[], _∷_};
 ghost use Prim.Native.Nat.{_+_, _*_, _-_, _≤_};
 ghost use lib.ListN.{length, take};
 ghost use Rattle.words.specs.Words.{mostNamed};
-ghost use Rattle.tickets.specs.Tickets.{padded};
 ghost use Rattle.edits.specs.declared.Edit.the-variants as Edit;
-ghost use Rattle.edits.specs.Views.{allInBook};
+ghost use Rattle.edits.specs.Views.{allInBook, paddedNames};
 ghost use Rattle.edits.specs.Ranges.{sameLeg, namedTwice};
 ghost use Rattle.frames.specs.Requests.{strikeKind, moveKind, lengthOfKind, isEditKind, strikeIn, moveIn, viewWordsIn};
 ghost use Rattle.frames.specs.Numbers.{number16};
@@ -232,7 +231,7 @@ pub fn read_edit(kind: u16, part: &[u8]) -> EditRead
 // The words that a view names, zeros behind them.
 fn named_words(part: &[u8], n: usize) -> [u64; Limits::NAMED]
     requires { ⌜ (n ≤ mostNamed) × (length (now part) ≡ 4 + 2 * n) ⌝ }
-    ensures { λ r. ⌜ r ≡ padded (viewWordsIn (now (part .entry))) ⌝ }
+    ensures { λ r. ⌜ r ≡ paddedNames (viewWordsIn (now (part .entry))) ⌝ }
 {
     let mut words = [0u64; Limits::NAMED];
     let mut k: usize = 0;

@@ -4,6 +4,8 @@ ghost use lib.ListN.{length};
 use frames::numbers::Bits;
 use frames::numbers::read16;
 use frames::numbers::read32;
+use tickets::Kind;
+use tickets::Ticket;
 use words::Limits;
 
 pub mod say; // the text, piece by piece
@@ -60,6 +62,13 @@ pub fn at_most(wanted: usize, most: usize) -> usize
     wanted
 }
 
+// A word given is its number, 16 bits, with its value, 64 bits.
+pub struct Given {}
+
+impl Given {
+    pub const BYTES: usize = 10;
+}
+
 // The number of 64 bits that starts at a byte.
 pub fn read64(part: &[u8], at: usize) -> u64
     requires { ⌜ at + 7 < length (now part) ⌝ }
@@ -67,4 +76,52 @@ pub fn read64(part: &[u8], at: usize) -> u64
     let low = read32(part, at);
     let high = read32(part, at + 4);
     low as u64 + Bits::FOUR_BYTES * (high as u64)
+}
+
+pub fn fill_words(words: &mut [u64], value: u64) {
+    let mut i: usize = 0;
+    while i < words.len() {
+        words[i] = value;
+        i += 1;
+    }
+}
+
+// A word that the book doesn't have is passed over.
+fn set_word(book: &mut [u64], word: usize, value: u64) {
+    if book.len() <= word {
+        return;
+    }
+    book[word] = value;
+}
+
+pub fn set_words(book: &mut [u64], given: &[u8]) {
+    let mut at: usize = 0;
+    while Given::BYTES <= given.len() - at {
+        let word = read16(given, at);
+        let value = read64(given, at + 2);
+        set_word(book, word as usize, value);
+        at += Given::BYTES;
+    }
+}
+
+fn kind_of(number: u16) -> Kind {
+    match number {
+        0 => Kind::Edit,
+        1 => Kind::Stale,
+        _ => Kind::View,
+    }
+}
+
+// The slot that starts at a byte: tries, 32 bits, then n, claimed, done and kind (0 an edit's, 1 that of an edit found stale, 2 a
+// view's), 16 bits each.
+pub fn read_slot(part: &[u8], at: usize) -> Ticket
+    requires { ⌜ at + 11 < length (now part) ⌝ }
+{
+    Ticket {
+        tries: read32(part, at),
+        n: read16(part, at + 4),
+        claimed: read16(part, at + 6),
+        done: read16(part, at + 8),
+        kind: kind_of(read16(part, at + 10)),
+    }
 }

@@ -27,6 +27,16 @@ pub fn end() {
     text(b"\n");
 }
 
+// The line for a word that has changed.
+pub fn change(word: usize, before: u64, after: u64) {
+    if before != after {
+        let pair = [word as u64, after];
+        text(b"word");
+        numbers(&pair);
+        end();
+    }
+}
+
 fn digit(x: u8) -> u8
     requires { ⌜ x < 16 ⌝ }
 {

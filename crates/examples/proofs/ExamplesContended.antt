@@ -90,16 +90,16 @@ contended-in-turn : notesOn (heardOn [] contended) .outOfTurn ≡ 0
 unfolding everyRun
 contended-in-turn = refl
 
--- Team 1 adds behind team 0's leg, which is decided and not yet put: it waits once, and is granted after 2 × 5 + 1 tries.
+-- Team 1 adds behind team 0's leg, which is decided and not yet put: it waits once, and is granted after 2 × 6 + 1 tries, since it sets leg 1's newer word too.
 abbrev behind : Edit
 behind = Add record { passage = 0; leg = 2; newest = 1; count = 1; stations = stations; measure = thatMeasure }
 
 abbrev patient : List Call
-patient = calls (Open 0 (firstLeg 1 0 thatMeasure) ∷ steps 5 0 ++ (Open 1 behind ∷ Step 1 ∷ steps 5 0 ++ steps 10 1))
+patient = calls (Open 0 (firstLeg 1 0 thatMeasure) ∷ steps 5 0 ++ (Open 1 behind ∷ Step 1 ∷ steps 5 0 ++ steps 12 1))
 
 patient-ended : endedAs (ended (heardOn [] patient))
     ≡ record { last = wasGranted 10; steps = 10; waits = 0; found = none; decisions = 1 }
-    ∷ record { last = wasGranted 11; steps = 11; waits = 1; found = none; decisions = 1 } ∷ []
+    ∷ record { last = wasGranted 13; steps = 13; waits = 1; found = none; decisions = 1 } ∷ []
 unfolding everyRun
 patient-ended = refl
 

@@ -21,7 +21,7 @@ use Rattle.calls.specs.Bench.{stations, thatMeasure, measured, firstLeg}
 use Rattle.calls.proofs.ExampleCalls.{everyRun, calls, steps, answers, leg, plainWords}
 
 -- Leg r to the front of passage p, for h and c.
-abbrev adding : ℕ → ℕ → ℕ → ℕ → Edit
+abbrev pub adding : ℕ → ℕ → ℕ → ℕ → Edit
 adding passage number newest count = Add (record { passage = passage; leg = number; newest = newest; count = count; stations = stations; measure = thatMeasure })
 
 -- Leg 1 from passage 0 to 1; leg 2 from passage 1 to 0.
@@ -37,13 +37,13 @@ setting = (Open 0 (firstLeg 1 0 thatMeasure) ∷ steps 10 0) ++ (Open 1 (adding 
 abbrev opposite : List Request
 opposite =
     Open 0 moveFirst ∷ Open 1 moveSecond ∷ Step 1 ∷ Step 0 ∷ Look 0 ∷ Look 2
-    ∷ steps 5 1 ++ (Step 0 ∷ steps 6 1) ++ (Step 0 ∷ Look 2 ∷ [])
+    ∷ steps 7 1 ++ (Step 0 ∷ steps 8 1) ++ (Step 0 ∷ Look 2 ∷ [])
 
 opposite-answers : drop 22 (answers (calls (setting ++ opposite)))
-    ≡ map some (Answer.Standing 6 ∷ Answer.Standing 6 ∷ Answer.Step (Claimed 1) ∷ Answer.Step (Waiting 0 1) ∷ Answer.Look Held ∷ Answer.Look (Value 2)
-    ∷ Answer.Step (Claimed 2) ∷ Answer.Step (Claimed 3) ∷ Answer.Step (Claimed 4) ∷ Answer.Step (Claimed 5) ∷ Answer.Step (Claimed 6)
+    ≡ map some (Answer.Standing 8 ∷ Answer.Standing 8 ∷ Answer.Step (Claimed 1) ∷ Answer.Step (Waiting 0 1) ∷ Answer.Look Held ∷ Answer.Look (Value 2)
+    ∷ Answer.Step (Claimed 2) ∷ Answer.Step (Claimed 3) ∷ Answer.Step (Claimed 4) ∷ Answer.Step (Claimed 5) ∷ Answer.Step (Claimed 6) ∷ Answer.Step (Claimed 7) ∷ Answer.Step (Claimed 8)
     ∷ Answer.Step (Waiting 0 1)
-    ∷ Answer.Step (Put 1) ∷ Answer.Step (Put 2) ∷ Answer.Step (Put 3) ∷ Answer.Step (Put 4) ∷ Answer.Step (Put 5) ∷ Answer.Step (Granted 12)
+    ∷ Answer.Step (Put 1) ∷ Answer.Step (Put 2) ∷ Answer.Step (Put 3) ∷ Answer.Step (Put 4) ∷ Answer.Step (Put 5) ∷ Answer.Step (Put 6) ∷ Answer.Step (Put 7) ∷ Answer.Step (Granted 16)
     ∷ Answer.Step (Stale 0 3) ∷ Answer.Look (Value 0) ∷ [])
 unfolding everyRun
 opposite-answers = refl
@@ -85,7 +85,7 @@ in-use-held : heldAfterReturned ≡ false ∷ true ∷ true ∷ false ∷ []
 unfolding everyRun
 in-use-held = refl
 
--- Legs 1 and 2 are added to passage 0, leg 1 corrected, leg 2 moved to passage 3, leg 1 struck; looks between.
+-- Legs 1 and 2 are added to passage 0, leg 1 corrected, leg 2 moved to passage 3, leg 1 struck; looks between, at leg 2's link and at leg 1's newer word too.
 abbrev correctFirst : Edit
 correctFirst = Correct (record { passage = 0; leg = 1; stations = stations; old = thatMeasure; new = measured 6000 (pos 20) })
 
@@ -97,18 +97,18 @@ strikeFirst = Strike (record { passage = 0; newer = 0; leg = 1; older = 0; count
 
 abbrev four : List Request
 four =
-    (Open 0 (firstLeg 1 0 thatMeasure) ∷ steps 10 0) ++ (Open 0 (adding 0 2 1 1) ∷ steps 10 0)
-    ++ (Look 67 ∷ Open 0 correctFirst ∷ steps 4 0)
-    ++ (Look 66 ∷ Open 0 moveAway ∷ steps 12 0)
-    ++ (Look 6 ∷ Look 7 ∷ Look 68 ∷ Open 0 strikeFirst ∷ steps 10 0)
+    (Open 0 (firstLeg 1 0 thatMeasure) ∷ steps 10 0) ++ (Open 0 (adding 0 2 1 1) ∷ steps 12 0)
+    ++ (Look 68 ∷ Look 67 ∷ Open 0 correctFirst ∷ steps 4 0)
+    ++ (Look 66 ∷ Open 0 moveAway ∷ steps 16 0)
+    ++ (Look 6 ∷ Look 7 ∷ Look 69 ∷ Look 67 ∷ Open 0 strikeFirst ∷ steps 12 0)
     ++ (Look 0 ∷ Look 1 ∷ Look 65 ∷ [])
 
 abbrev fourEvents : List Event
 fourEvents =
     decided granted (firstLeg 1 0 thatMeasure) ∷ decided granted (adding 0 2 1 1)
-    ∷ looked 67 1 ∷ decided granted correctFirst
+    ∷ looked 68 1 ∷ looked 67 2 ∷ decided granted correctFirst
     ∷ looked 66 (measureOf (measured 6000 (pos 20))) ∷ decided granted moveAway
-    ∷ looked 6 2 ∷ looked 7 1 ∷ looked 68 (placeOf 3 stations) ∷ decided granted strikeFirst
+    ∷ looked 6 2 ∷ looked 7 1 ∷ looked 69 (placeOf 3 stations) ∷ looked 67 0 ∷ decided granted strikeFirst
     ∷ looked 0 0 ∷ looked 1 0 ∷ looked 65 0 ∷ []
 
 four-order : orderOf [] (calls four) ≡ fourEvents
@@ -128,14 +128,14 @@ four-counts : legsInBook fourPlain ∷ grantedOf addsIn fourEvents ∷ grantedOf
 unfolding everyRun
 four-counts = refl
 
--- The book's first 70 words, and the plain book's.
+-- The book's first 72 words, the last of them leg 2's newer word, and the plain book's.
 abbrev firstWords : List ℕ
-firstWords = replicate 6 0 ++ (2 ∷ 1 ∷ replicate 60 0) ++ (placeOf 3 stations ∷ measureOf thatMeasure ∷ [])
+firstWords = replicate 6 0 ++ (2 ∷ 1 ∷ replicate 61 0) ++ (placeOf 3 stations ∷ measureOf thatMeasure ∷ 0 ∷ [])
 
-four-words : take 70 (bookAfter [] (calls four)) ≡ firstWords
+four-words : take 72 (bookAfter [] (calls four)) ≡ firstWords
 unfolding everyRun
 four-words = refl
 
-four-plain-words : plainWords 70 0 fourPlain ≡ firstWords
+four-plain-words : plainWords 72 0 fourPlain ≡ firstWords
 unfolding everyRun
 four-plain-words = refl

@@ -26,16 +26,16 @@ heard requests = heardOn [] (calls requests)
 abbrev held : List ℕ → List Request → List Bool
 held words requests = map (λ (word : ℕ). holds (heard requests) 0 word) words
 
--- Words 48 to 51, 64 and 65 after one, two, three and six claims of the move, and after two words are put.
+-- Words 48 to 51, 64, 65 and 67 after one, two, three and seven claims of the move, and after two words are put.
 abbrev moved : ℕ → List Bool
-moved many = held (48 ∷ 49 ∷ 50 ∷ 51 ∷ 64 ∷ 65 ∷ []) ((Open 0 adding ∷ steps 10 0) ++ (Open 0 moving ∷ steps many 0))
+moved many = held (48 ∷ 49 ∷ 50 ∷ 51 ∷ 64 ∷ 65 ∷ 67 ∷ []) ((Open 0 adding ∷ steps 10 0) ++ (Open 0 moving ∷ steps many 0))
 
-move-held : moved 1 ∷ moved 2 ∷ moved 3 ∷ moved 6 ∷ moved 8 ∷ []
-    ≡ (false ∷ false ∷ true ∷ false ∷ false ∷ false ∷ [])
-    ∷ (false ∷ false ∷ true ∷ true ∷ false ∷ false ∷ [])
-    ∷ (true ∷ false ∷ true ∷ true ∷ false ∷ false ∷ [])
-    ∷ (true ∷ true ∷ true ∷ true ∷ true ∷ true ∷ [])
-    ∷ (true ∷ true ∷ false ∷ false ∷ true ∷ true ∷ [])
+move-held : moved 1 ∷ moved 2 ∷ moved 3 ∷ moved 7 ∷ moved 9 ∷ []
+    ≡ (false ∷ false ∷ true ∷ false ∷ false ∷ false ∷ false ∷ [])
+    ∷ (false ∷ false ∷ true ∷ true ∷ false ∷ false ∷ false ∷ [])
+    ∷ (true ∷ false ∷ true ∷ true ∷ false ∷ false ∷ false ∷ [])
+    ∷ (true ∷ true ∷ true ∷ true ∷ true ∷ true ∷ true ∷ [])
+    ∷ (true ∷ true ∷ false ∷ false ∷ true ∷ true ∷ true ∷ [])
     ∷ []
 unfolding everyRun
 move-held = refl

@@ -43,7 +43,7 @@ unfolding everyRank
 held-first = refl
 
 -- Under the fixed ranks word 0 is claimed first, which is 0 and not 1.
-fixed-first : answers (calls (Open 3 moving ∷ Step 3 ∷ [])) ≡ map some (Answer.Standing 6 ∷ Answer.Step (Stale 0 1) ∷ [])
+fixed-first : answers (calls (Open 3 moving ∷ Step 3 ∷ [])) ≡ map some (Answer.Standing 7 ∷ Answer.Step (Stale 0 1) ∷ [])
 unfolding everyRank
 fixed-first = refl
 
@@ -61,7 +61,7 @@ abbrev moved : Bytes
 moved = requestFrame (Open 3 moving) ++ requestFrame (Step 3)
 
 abbrev movedAnswers : Bytes
-movedAnswers = answerFrame (Answer.Standing 6) ++ answerFrame (Answer.Step (Claimed 1))
+movedAnswers = answerFrame (Answer.Standing 7) ++ answerFrame (Answer.Step (Claimed 1))
 
 stream-ranked : streamOf book freshTickets turned moved (replicate 64 0) .2 ≡ movedAnswers ++ replicate 52 0
 unfolding everyRank
@@ -78,7 +78,7 @@ store = replicate wordsInStore 0
 abbrev opposite : List Request
 opposite =
     Open 0 moveFirst ∷ Open 1 moveSecond ∷ Step 1 ∷ Step 0 ∷ Look 0 ∷ Look 2
-    ∷ steps 11 1 ++ (Step 0 ∷ [])
+    ∷ steps 15 1 ++ (Step 0 ∷ [])
 
 abbrev both : List Call
 both = calls setting ++ (filling 0 theStore ∷ calls opposite) ++ (loading turned ∷ comingBack 0 theStore ∷ calls opposite)
@@ -86,19 +86,19 @@ both = calls setting ++ (filling 0 theStore ∷ calls opposite) ++ (loading turn
 -- Team 1 claims word 0, where passage 0 has the lower rank, and word 2, where passage 1 has; team 0 waits for that word, and is stale by it.
 abbrev told : ℕ → Answer → Answer → List (Option Answer)
 told word first second =
-    map some (Answer.Standing 6 ∷ Answer.Standing 6 ∷ Answer.Step (Claimed 1) ∷ Answer.Step (Waiting word 1) ∷ first ∷ second
-    ∷ Answer.Step (Claimed 2) ∷ Answer.Step (Claimed 3) ∷ Answer.Step (Claimed 4) ∷ Answer.Step (Claimed 5) ∷ Answer.Step (Claimed 6)
-    ∷ Answer.Step (Put 1) ∷ Answer.Step (Put 2) ∷ Answer.Step (Put 3) ∷ Answer.Step (Put 4) ∷ Answer.Step (Put 5) ∷ Answer.Step (Granted 12)
+    map some (Answer.Standing 8 ∷ Answer.Standing 8 ∷ Answer.Step (Claimed 1) ∷ Answer.Step (Waiting word 1) ∷ first ∷ second
+    ∷ Answer.Step (Claimed 2) ∷ Answer.Step (Claimed 3) ∷ Answer.Step (Claimed 4) ∷ Answer.Step (Claimed 5) ∷ Answer.Step (Claimed 6) ∷ Answer.Step (Claimed 7) ∷ Answer.Step (Claimed 8)
+    ∷ Answer.Step (Put 1) ∷ Answer.Step (Put 2) ∷ Answer.Step (Put 3) ∷ Answer.Step (Put 4) ∷ Answer.Step (Put 5) ∷ Answer.Step (Put 6) ∷ Answer.Step (Put 7) ∷ Answer.Step (Granted 16)
     ∷ Answer.Step (Stale word 2) ∷ [])
 
 abbrev answersIn : List (Option Answer)
 answersIn = map answerHeard (heardOn store both)
 
-before-load : take 18 (drop 23 answersIn) ≡ told 0 (Answer.Look Held) (Answer.Look (Value 2))
+before-load : take 22 (drop 23 answersIn) ≡ told 0 (Answer.Look Held) (Answer.Look (Value 2))
 unfolding everyRank
 before-load = refl
 
-after-load : drop 43 answersIn ≡ told 2 (Answer.Look (Value 1)) (Answer.Look Held)
+after-load : drop 47 answersIn ≡ told 2 (Answer.Look (Value 1)) (Answer.Look Held)
 unfolding everyRank
 after-load = refl
 
@@ -113,11 +113,11 @@ both-in-turn : notesOn (heardOn store both) .outOfTurn ≡ 0
 unfolding everyRank
 both-in-turn = refl
 
--- In rounds of steps the two moves get done under the loaded ranks as well, in twelve of twenty-four rounds.
+-- In rounds of steps the two moves get done under the loaded ranks as well, in sixteen of thirty-two rounds.
 abbrev contended : List Call
 contended = loading turned ∷ calls (setting ++ (Open 0 moveFirst ∷ Open 1 moveSecond ∷ []))
 
-contended-standing : map (λ many. standingBelow teamCount (playedOn many (run [] contended .end) .tickets)) (0 ∷ 6 ∷ 7 ∷ 11 ∷ 12 ∷ [])
+contended-standing : map (λ many. standingBelow teamCount (playedOn many (run [] contended .end) .tickets)) (0 ∷ 8 ∷ 9 ∷ 15 ∷ 16 ∷ [])
     ≡ (1 ∷ 0 ∷ []) ∷ (1 ∷ 0 ∷ []) ∷ (1 ∷ []) ∷ (1 ∷ []) ∷ [] ∷ []
 unfolding everyRank
 contended-standing = refl

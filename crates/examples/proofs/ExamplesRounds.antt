@@ -1,4 +1,4 @@
--- Two views of one word take all four rounds; two opposite moves take twelve of twenty-four.
+-- Two views of one word take all four rounds; two opposite moves take sixteen of thirty-two.
 use Prim.Native.Nat.{ℕ, zero, suc}
 use mathlib.Core.Path.{_≡_, refl, _∙_}
 use mathlib.Core.Bool.{Bool, true, false, cond}
@@ -77,15 +77,15 @@ abbrev pub playedOn : ℕ → Shared → Shared
 playedOn zero shared = shared
 playedOn (suc many) shared = playedOn many (afterRound shared (turnsBelow teamCount (shared .tickets)))
 
--- Leg 1 from passage 0 to 1, and leg 2 from passage 1 to 0. Team 1 claims six words and puts them; team 0 waits, and is stale when word 0 is put.
+-- Leg 1 from passage 0 to 1, and leg 2 from passage 1 to 0. Team 1 claims eight words and puts them; team 0 waits, and is stale when word 0 is put.
 abbrev opposite : List Call
 opposite = calls (setting ++ (Open 0 moveFirst ∷ Open 1 moveSecond ∷ []))
 
-opposite-targets : targetsStanding (run [] opposite .end .tickets) ≡ 12
+opposite-targets : targetsStanding (run [] opposite .end .tickets) ≡ 16
 unfolding everyRun targetsBelow
 opposite-targets = refl
 
-opposite-standing : map (λ many. standingBelow teamCount (playedOn many (run [] opposite .end) .tickets)) (0 ∷ 6 ∷ 7 ∷ 11 ∷ 12 ∷ [])
+opposite-standing : map (λ many. standingBelow teamCount (playedOn many (run [] opposite .end) .tickets)) (0 ∷ 8 ∷ 9 ∷ 15 ∷ 16 ∷ [])
     ≡ (1 ∷ 0 ∷ []) ∷ (1 ∷ 0 ∷ []) ∷ (1 ∷ []) ∷ (1 ∷ []) ∷ [] ∷ []
 unfolding everyRun turnsBelow
 opposite-standing = refl

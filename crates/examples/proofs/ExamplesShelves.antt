@@ -47,11 +47,11 @@ returnedAt list places = map (λ (k : ℕ). getD (map (λ one. one .returned) (h
 abbrev list : List Call
 list =
     comingBack 1 theStore ∷ calls (Open 0 first ∷ []) ++ (filling 1 theStore ∷ calls (steps 10 0))
-    ++ (filling 1 theStore ∷ filling 3 theStore ∷ filling 1 (another []) ∷ calls (Open 0 second ∷ steps 10 0))
-    ++ (filling 0 theStore ∷ comingBack 2 theStore ∷ comingBack 1 theStore ∷ calls (Look 0 ∷ Open 5 second ∷ steps 10 5))
+    ++ (filling 1 theStore ∷ filling 3 theStore ∷ filling 1 (another []) ∷ calls (Open 0 second ∷ steps 12 0))
+    ++ (filling 0 theStore ∷ comingBack 2 theStore ∷ comingBack 1 theStore ∷ calls (Look 0 ∷ Open 5 second ∷ steps 12 5))
     ++ (comingBack 0 theStore ∷ calls (Look 0 ∷ []))
 
-fill-numbers : returnedAt list (0 ∷ 2 ∷ 13 ∷ 14 ∷ 15 ∷ 27 ∷ 28 ∷ 29 ∷ 42 ∷ []) ≡ 20 ∷ 14 ∷ 0 ∷ 20 ∷ 19 ∷ 0 ∷ 20 ∷ 0 ∷ 0 ∷ []
+fill-numbers : returnedAt list (0 ∷ 2 ∷ 13 ∷ 14 ∷ 15 ∷ 29 ∷ 30 ∷ 31 ∷ 46 ∷ []) ≡ 20 ∷ 14 ∷ 0 ∷ 20 ∷ 19 ∷ 0 ∷ 20 ∷ 0 ∷ 0 ∷ []
 unfolding everyShelf
 fill-numbers = refl
 
@@ -92,7 +92,7 @@ flags = refl
 -- Filled again, a shelf keeps the later book; it can be come back to twice.
 abbrev again : List Call
 again =
-    filling 2 theStore ∷ calls (Open 0 first ∷ steps 10 0) ++ (filling 2 theStore ∷ calls (Open 0 second ∷ steps 10 0))
+    filling 2 theStore ∷ calls (Open 0 first ∷ steps 10 0) ++ (filling 2 theStore ∷ calls (Open 0 second ∷ steps 12 0))
     ++ (comingBack 2 theStore ∷ calls (Look 0 ∷ [])) ++ (comingBack 2 theStore ∷ calls (Look 0 ∷ []))
 
 again-order : orderOf store again
@@ -205,7 +205,7 @@ puts = stepHeard (Put 1) ∷ stepHeard (Put 2) ∷ stepHeard (Put 3) ∷ stepHea
 
 keeps-adds : Linearizable (record {
   end = fresh store;
-  heard = fillHeard ∷ heardAs (Open 0 first) (Answer.Standing 5) ∷ claims ++ puts ++ (backHeard ∷ heardAs (Open 0 second) (Answer.Standing 5) ∷ claims);
+  heard = fillHeard ∷ heardAs (Open 0 first) (Answer.Standing 5) ∷ claims ++ puts ++ (backHeard ∷ heardAs (Open 0 second) (Answer.Standing 6) ∷ claims ++ (stepHeard (Claimed 6) ∷ []));
 }) → ⊥
 unfolding everyShelf
 keeps-adds right = let counted : _≡_ {A = ℕ} 0 1 = right .counts-add-up in omega arith

@@ -19,7 +19,7 @@ use Rattle.calls.specs.Linearizable.{play, heardOn, orderOf}
 use Rattle.calls.specs.Bench.{stations, thatMeasure, measured, firstLeg}
 use Rattle.calls.proofs.ExampleCalls.{everyRun, calls, steps, answers}
 
--- Leg 1 is in passage 0; its words are 64, 65 and 66, the last of which a correction changes.
+-- Leg 1 is in passage 0; its words are 64 to 67, the third of which a correction changes.
 abbrev adding : Edit
 adding = firstLeg 1 0 thatMeasure
 
@@ -43,7 +43,7 @@ looks-order : orderOf [] (calls looks) ≡ decided granted adding ∷ looked 65 
 unfolding everyRun
 looks-order = refl
 
--- A view of words 66, 65 and 68, which are claimed as 65, 66, 68. Leg 2 is added after its first claim; the correction waits until two words are
+-- A view of words 66, 65 and 69, which are claimed as 65, 66, 69. Leg 2 is added after its first claim; the correction waits until two words are
 -- given back. Both are granted before the view's last answer, which shows the words of its last claim in the order named.
 abbrev addingSecond : Edit
 addingSecond = Add (record { passage = 1; leg = 2; newest = 0; count = 0; stations = stations; measure = thatMeasure })
@@ -51,7 +51,7 @@ addingSecond = Add (record { passage = 1; leg = 2; newest = 0; count = 0; statio
 abbrev views : List Request
 views =
     (Open 0 adding ∷ steps 10 0)
-    ++ (View 1 3 (66 ∷ 65 ∷ 68 ∷ []) ∷ Step 1 ∷ Open 2 addingSecond ∷ steps 10 2)
+    ++ (View 1 3 (66 ∷ 65 ∷ 69 ∷ []) ∷ Step 1 ∷ Open 2 addingSecond ∷ steps 10 2)
     ++ (Open 0 correcting ∷ Step 0 ∷ Step 1 ∷ Step 1 ∷ Step 0 ∷ Step 1 ∷ Step 1 ∷ steps 4 0)
     ++ (Look 66 ∷ Step 1 ∷ [])
 
@@ -68,7 +68,7 @@ abbrev values : List ℕ
 values = before ∷ place ∷ placeOf 1 stations ∷ []
 
 views-order : orderOf [] (calls views)
-    ≡ decided granted adding ∷ decided granted addingSecond ∷ seen (66 ∷ 65 ∷ 68 ∷ []) values ∷ decided granted correcting ∷ looked 66 after ∷ []
+    ≡ decided granted adding ∷ decided granted addingSecond ∷ seen (66 ∷ 65 ∷ 69 ∷ []) values ∷ decided granted correcting ∷ looked 66 after ∷ []
 unfolding everyRun
 views-order = refl
 
@@ -77,7 +77,7 @@ unfolding everyRun
 unfinished-order = refl
 
 -- The values are the plain book's words there.
-views-plain : map (wordOf (play (decided granted adding ∷ decided granted addingSecond ∷ []))) (66 ∷ 65 ∷ 68 ∷ []) ≡ values
+views-plain : map (wordOf (play (decided granted adding ∷ decided granted addingSecond ∷ []))) (66 ∷ 65 ∷ 69 ∷ []) ≡ values
 unfolding everyRun
 views-plain = refl
 

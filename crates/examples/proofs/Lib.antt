@@ -2,6 +2,7 @@ mod RefusalExamples
 mod ExamplesWholeCase
 mod ExamplesContended
 mod ExamplesMoves
+mod ExamplesChains
 mod ExamplesPositions
 mod ExamplesPieces
 mod ExamplesViews

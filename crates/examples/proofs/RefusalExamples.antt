@@ -4,8 +4,10 @@ use mathlib.Core.List.{[], _∷_, _++_, map}
 use mathlib.Core.Option.{none, some}
 use lib.ListN.{replicate}
 use Rattle.legs.specs.Positions.{fixedRanks}
+use Rattle.tickets.specs.declared.Phase.the-variants.{Claiming}
 use Rattle.tickets.specs.Tickets.{freshTickets, withTicket}
 use Rattle.edits.specs.Opened.{openedTicket}
+use Rattle.edits.specs.Views.{openedView}
 use Rattle.frames.specs.Request.{Step, View}
 use Rattle.frames.specs.declared.Answer.the-variants.{Refused}
 use Rattle.frames.specs.Writing.{requestFrame}
@@ -13,7 +15,7 @@ use Rattle.frames.specs.Answers.{answerFrame}
 use Rattle.calls.specs.Call.{refusalOf, callOf}
 use Rattle.calls.specs.Survey.{surveyOf}
 use Rattle.calls.proofs.Computing.{everything}
-use Rattle.calls.proofs.RefusalOrder.{book, out, sevenTargets, repeats}
+use Rattle.calls.proofs.RefusalOrder.{book, out, damaged, tenTargets, repeats}
 
 -- 1 to 6, in checking order: each call breaks the next rule too.
 refusals-1-to-6 :
@@ -34,7 +36,7 @@ views-refused :
     ∷ refusalOf book freshTickets fixedRanks (requestFrame (View 16 7 (1 ∷ 2 ∷ 3 ∷ 4 ∷ 5 ∷ 6 ∷ 7 ∷ []))) out
     ∷ refusalOf book freshTickets fixedRanks (9 ∷ 0 ∷ 7 ∷ 0 ∷ 16 ∷ 0 ∷ 1 ∷ 0 ∷ 3 ∷ 0 ∷ 4 ∷ []) out
     ∷ refusalOf book freshTickets fixedRanks (requestFrame (View 16 1 (3 ∷ []))) out
-    ∷ refusalOf book (withTicket freshTickets 0 sevenTargets) fixedRanks (requestFrame (View 0 2 (4096 ∷ []))) out
+    ∷ refusalOf book (withTicket freshTickets 0 tenTargets) fixedRanks (requestFrame (View 0 2 (4096 ∷ []))) out
     ∷ refusalOf book (withTicket freshTickets 0 (openedTicket fixedRanks repeats)) fixedRanks (requestFrame (View 0 2 (4096 ∷ []))) out
     ∷ refusalOf book freshTickets fixedRanks (requestFrame (View 0 1 (3 ∷ 3 ∷ []))) out
     ∷ refusalOf book freshTickets fixedRanks (requestFrame (View 0 3 (4096 ∷ 3 ∷ 3 ∷ []))) out
@@ -44,6 +46,17 @@ views-refused :
     ≡ map some (5 ∷ 5 ∷ 5 ∷ 6 ∷ 7 ∷ 8 ∷ 10 ∷ 10 ∷ 11 ∷ []) ++ (none ∷ [])
 unfolding everything
 views-refused = refl
+
+-- "An edit's ticket has up to 9 targets, a view's up to 6 as before": a step of an edit's with nine and with ten, and of a view's with six and with seven.
+most-targets :
+    refusalOf book (withTicket freshTickets 0 (damaged Claiming 9 0)) fixedRanks (requestFrame (Step 0)) out
+    ∷ refusalOf book (withTicket freshTickets 0 tenTargets) fixedRanks (requestFrame (Step 0)) out
+    ∷ refusalOf book (withTicket freshTickets 0 (openedView fixedRanks (1 ∷ 2 ∷ 3 ∷ 4 ∷ 5 ∷ 6 ∷ []))) fixedRanks (requestFrame (Step 0)) out
+    ∷ refusalOf book (withTicket freshTickets 0 (openedView fixedRanks (1 ∷ 2 ∷ 3 ∷ 4 ∷ 5 ∷ 6 ∷ 7 ∷ []))) fixedRanks (requestFrame (Step 0)) out
+    ∷ []
+    ≡ none ∷ some 7 ∷ none ∷ some 7 ∷ []
+unfolding everything
+most-targets = refl
 
 -- A refusal writes six bytes, and the rest of the output stays; 1, 13 and 2 return their number and write nothing.
 refused-bytes : callOf book freshTickets fixedRanks (requestFrame (Step 1)) out .2 ≡ answerFrame (Refused 9) ++ replicate 46 7

@@ -77,6 +77,6 @@ unfolding everyRun
 claims-by-old-ranks right = let marked : _≡_ {A = ℕ} 0 (2 ^ 63) = right .held-marked 0 2 refl in omega arith
 
 -- The same with an edit: it is stale by word 0, which is not the first to be claimed.
-stale-by-old-ranks : Linearizable (left turned (loadHeard turned 0 ∷ heardAs (Open 0 moving) (Answer.Standing 6) ∷ heardAs (Step 0) (Answer.Step (Stale 0 1)) ∷ [])) → ⊥
+stale-by-old-ranks : Linearizable (left turned (loadHeard turned 0 ∷ heardAs (Open 0 moving) (Answer.Standing 7) ∷ heardAs (Step 0) (Answer.Step (Stale 0 1)) ∷ [])) → ⊥
 unfolding everyRun
 stale-by-old-ranks right = let named : _≡_ {A = ℕ} 0 2 = right .last-answers .0 .fits .1 .named in omega arith

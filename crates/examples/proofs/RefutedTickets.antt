@@ -14,7 +14,7 @@ use Rattle.frames.specs.Request.{Open, Step, View}
 use Rattle.calls.specs.Order.{Decision}
 use Rattle.calls.specs.Linearizable.{Linearizable}
 use Rattle.calls.proofs.ExampleCalls.{everyRun, heardAs}
-use Rattle.calls.proofs.RefusalOrder.{sevenTargets}
+use Rattle.calls.proofs.RefusalOrder.{tenTargets}
 use Rattle.examples.proofs.RefutedOrders.{running, freshBook, edited, adding, miscounted, standing, verdictNumber}
 
 -- last-answers: a ticket that ends and was never decided;
@@ -57,10 +57,10 @@ loses-a-word : Linearizable (running (replicate 4095 0) freshTickets []) → ⊥
 unfolding everyRun
 loses-a-word right = true≢false (right .stays-whole)
 
--- stays-well-made: one that leaves a ticket of seven targets.
-seven-targets : Linearizable (running freshBook (withTicket freshTickets 0 sevenTargets) []) → ⊥
+-- stays-well-made: one that leaves a ticket of ten targets.
+ten-targets : Linearizable (running freshBook (withTicket freshTickets 0 tenTargets) []) → ⊥
 unfolding everyRun
-seven-targets right = true≢false (right .stays-well-made 0)
+ten-targets right = true≢false (right .stays-well-made 0)
 
 -- tries-add-up: tries invented; and a ticket granted after two steps.
 invents-tries : Linearizable (running freshBook freshTickets (edited miscounted (Claimed 1 ∷ Found 1 ∷ Stale 1 9 ∷ []))) → ⊥

@@ -196,6 +196,10 @@ impl Refusal {
     // These are of calls without a frame, and are returned.
     pub const TICKET_STANDS: u16 = 14;
 
+    pub const UNSOUND: u16 = 15;
+
+    pub const LEG_ABOVE: u16 = 16;
+
     pub const STORE: u16 = 19;
 
     pub const SHELF: u16 = 20;

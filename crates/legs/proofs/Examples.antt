@@ -6,7 +6,8 @@ use mathlib.Core.Bool.{true, false}
 use lib.IntN.{ℤ, pos, negsuc}
 use lib.ListN.{drop}
 use Rattle.words.specs.Tests.{allHold}
-use Rattle.words.specs.Words.{measureWord}
+use Rattle.words.specs.declared.LegLayout.the-variants.{ThreeWords, FourWords}
+use Rattle.words.specs.Words.{linkWordIn, measureWordIn, newerWord}
 use Rattle.legs.specs.declared.Leg.{Leg}
 use Rattle.legs.specs.declared.Reading.{Reading}
 use Rattle.legs.specs.declared.Reading.the-variants.{NoLeg, Is}
@@ -61,9 +62,19 @@ clino-ends : map (λ (angle : ℕ × ℕ × ℕ). clinoAngleInRange (angle .0) (
 unfolding allHold
 clino-ends = refl
 
--- Leg 1,344 ends at word 4,095.
-example-3 : measureWord 1344 ≡ 4095
+-- Leg 1,008 ends at word 4,095.
+example-3 : newerWord 1008 ≡ 4095
 example-3 = refl
+
+-- So did leg 1,344 when a leg had three words; leg 1 starts at word 64 in both layouts, and leg 2 where leg 1 ends.
+last-old-leg : measureWordIn ThreeWords 1344 ≡ 4095
+last-old-leg = refl
+
+first-legs : map (λ layout. linkWordIn layout 1) (ThreeWords ∷ FourWords ∷ []) ≡ 64 ∷ 64 ∷ []
+first-legs = refl
+
+second-legs : map (λ layout. linkWordIn layout 2) (ThreeWords ∷ FourWords ∷ []) ≡ 67 ∷ 68 ∷ []
+second-legs = refl
 
 -- Clino −9,000 adds 0.
 example-4 : clinoOffset (negsuc 8999) ≡ 0

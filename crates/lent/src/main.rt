@@ -4,8 +4,7 @@
 // - Title (0): the bytes carried, as they stand.
 // - Fresh (1): zero words, and no ticket. Writes nothing, as the next three.
 // - Word (2): the word of that number becomes the value carried, 64 bits.
-// - Slot (3): the slot of the team of that number becomes the one carried: tries, 32 bits, then n, claimed, done and kind (0 an
-//   edit's, 1 that of an edit found stale, 2 a view's), 16 bits each.
+// - Slot (3): the slot of the team of that number becomes the one carried, in the form of `desk`.
 // - Target (4): the number at that place of the table's targets becomes the one carried, 64 bits.
 // - Frame (5): the bytes carried are the frame; beside the book so many bytes of output are lent, each with that number in it.
 // - Read (6): a reading of the place and the measure carried, 64 bits each.
@@ -23,11 +22,9 @@ use desk::read64;
 use desk::say;
 use frames::numbers::Bits;
 use frames::numbers::read16;
-use frames::numbers::read32;
 use legs::Leg;
 use legs::Reading;
 use libc::STDIN_FILENO;
-use tickets::Kind;
 use tickets::Phase;
 use tickets::Ticket;
 use tickets::Tickets;
@@ -100,25 +97,11 @@ fn with_target(mut state: State, place: usize, value: u64) -> State {
     state
 }
 
-fn kind_of(number: u16) -> Kind {
-    match number {
-        0 => Kind::Edit,
-        1 => Kind::Stale,
-        _ => Kind::View,
-    }
-}
-
 fn slot_in(carried: &[u8]) -> Ticket {
     if carried.len() < Carried::SLOT {
         return Ticket::none();
     }
-    Ticket {
-        tries: read32(carried, 0),
-        n: read16(carried, 4),
-        claimed: read16(carried, 6),
-        done: read16(carried, 8),
-        kind: kind_of(read16(carried, 10)),
-    }
+    desk::read_slot(carried, 0)
 }
 
 fn with_slot(mut state: State, team: usize, slot: Ticket) -> State {
@@ -131,19 +114,10 @@ fn with_slot(mut state: State, team: usize, slot: Ticket) -> State {
     state
 }
 
-fn tell_word(word: usize, before: u64, after: u64) {
-    if before != after {
-        let numbers = [word as u64, after];
-        say::text(b"word");
-        say::numbers(&numbers);
-        say::end();
-    }
-}
-
 fn tell_words(before: &[u64; Room::WORDS], after: &[u64; Room::WORDS]) {
     let mut word: usize = 0;
     while word < Room::WORDS {
-        tell_word(word, before[word], after[word]);
+        say::change(word, before[word], after[word]);
         word += 1;
     }
 }

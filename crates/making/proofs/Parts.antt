@@ -5,12 +5,12 @@ use mathlib.Core.Bool.{Bool, true, false, cond}
 use mathlib.Core.List.{List, map}
 use native.Mathlib.Omega.{arith}
 use borrow.Author.Tests.{lt-ltb}
-use Rattle.words.specs.Words.{mostTargets}
+use Rattle.words.specs.Words.{mostTargets, mostNamed}
 use Rattle.tickets.specs.declared.Target.{Target}
 use Rattle.tickets.specs.declared.Phase.the-variants.{NoTicket}
 use Rattle.tickets.specs.declared.Kind.the-variants.{Edit, Stale, View}
 use Rattle.tickets.specs.declared.Ticket as Slot
-use Rattle.tickets.specs.Tickets.{noTicket, targetsIn, wordsIn, namedIn, isView, allWellMade, countsWellMade, namesWellMade, wellMade, slotWellMade}
+use Rattle.tickets.specs.Tickets.{noTicket, targetsIn, wordsIn, namedIn, isView, mostOf, allWellMade, countsWellMade, namesWellMade, wellMade, slotWellMade}
 use Rattle.tickets.specs.Table.{standsIn, claimsIn, phaseBy, phaseOf, standing, targetsOf, gathered}
 use Rattle.tickets.proofs.Made.{too-few, too-many, bad-target, bad-counts, by-view}
 use Rattle.tickets.proofs.Gathering.{gathered-stands, gathered-gone, gathered-has}
@@ -28,14 +28,18 @@ pub view-is-view : (claims : Bool) → true ≡ isView (phaseBy View claims)
 view-is-view true = refl
 view-is-view false = refl
 
+-- The most targets of a standing ticket, as the code asks it.
+pub most-told : (slot : Slot.Ticket) (view : Bool) (most : ℕ) → view ≡ isView (phaseBy (slot .kind) (claimsIn slot)) → most ≡ cond view mostNamed mostTargets → most ≡ mostOf (phaseBy (slot .kind) (claimsIn slot))
+most-told slot view most is told = told ∙ ap (λ b. cond b mostNamed mostTargets) is
+
 module _ (targets : List ℕ) (team : ℕ) (slot : Slot.Ticket) where
   pub none-stands : slot .n ≤ slot .done → wellMade (gathered targets team slot) ≡ false
   none-stands over = ap wellMade (gathered-gone targets team slot over) ∙ too-few noTicket (omega arith)
 
-  pub many-targets : slot .done < slot .n → mostTargets < slot .n → wellMade (gathered targets team slot) ≡ false
+  pub many-targets : slot .done < slot .n → mostOf (phaseBy (slot .kind) (claimsIn slot)) < slot .n → wellMade (gathered targets team slot) ≡ false
   many-targets stands many = ap wellMade (gathered-stands targets team slot stands) ∙ too-many (standing targets team slot) (omega (arith, stands)) many
 
-  pub one-bad : slot .done < slot .n → slot .n ≤ mostTargets → allWellMade (targetsIn (targetsOf targets team (slot .n))) ≡ false → wellMade (gathered targets team slot) ≡ false
+  pub one-bad : slot .done < slot .n → slot .n ≤ mostOf (phaseBy (slot .kind) (claimsIn slot)) → allWellMade (targetsIn (targetsOf targets team (slot .n))) ≡ false → wellMade (gathered targets team slot) ≡ false
   one-bad stands most bad =
       ap wellMade (gathered-stands targets team slot stands)
       ∙ bad-target (standing targets team slot) (omega (arith, stands)) most (ap allWellMade (targets-alike targets team slot) ∙ bad)
@@ -43,12 +47,12 @@ module _ (targets : List ℕ) (team : ℕ) (slot : Slot.Ticket) where
   phase-stands : slot .done < slot .n → phaseOf slot ≡ standing targets team slot .phase
   phase-stands stands = ap (λ b. cond b (phaseBy (slot .kind) (claimsIn slot)) NoTicket) (lt-ltb (slot .done) (slot .n) stands)
 
-  pub counts-bad : slot .done < slot .n → slot .n ≤ mostTargets → allWellMade (targetsIn (targetsOf targets team (slot .n))) ≡ true → countsWellMade (phaseOf slot) (slot .n) (slot .claimed) (slot .done) ≡ false → wellMade (gathered targets team slot) ≡ false
+  pub counts-bad : slot .done < slot .n → slot .n ≤ mostOf (phaseBy (slot .kind) (claimsIn slot)) → allWellMade (targetsIn (targetsOf targets team (slot .n))) ≡ true → countsWellMade (phaseOf slot) (slot .n) (slot .claimed) (slot .done) ≡ false → wellMade (gathered targets team slot) ≡ false
   counts-bad stands most good bad =
       ap wellMade (gathered-stands targets team slot stands)
       ∙ bad-counts (standing targets team slot) (omega (arith, stands)) most (ap allWellMade (targets-alike targets team slot) ∙ good) (ap (λ p. countsWellMade p (slot .n) (slot .claimed) (slot .done)) (sym (phase-stands stands)) ∙ bad)
 
-  pub by-names : slot .done < slot .n → slot .n ≤ mostTargets → allWellMade (targetsIn (targetsOf targets team (slot .n))) ≡ true → countsWellMade (phaseOf slot) (slot .n) (slot .claimed) (slot .done) ≡ true → wellMade (gathered targets team slot) ≡ cond (isView (phaseBy (slot .kind) (claimsIn slot))) (namesWellMade (namedIn (targetsOf targets team (slot .n))) (wordsIn (targetsOf targets team (slot .n)))) true
+  pub by-names : slot .done < slot .n → slot .n ≤ mostOf (phaseBy (slot .kind) (claimsIn slot)) → allWellMade (targetsIn (targetsOf targets team (slot .n))) ≡ true → countsWellMade (phaseOf slot) (slot .n) (slot .claimed) (slot .done) ≡ true → wellMade (gathered targets team slot) ≡ cond (isView (phaseBy (slot .kind) (claimsIn slot))) (namesWellMade (namedIn (targetsOf targets team (slot .n))) (wordsIn (targetsOf targets team (slot .n)))) true
   by-names stands most good fit =
       ap wellMade (gathered-stands targets team slot stands)
       ∙ by-view (standing targets team slot) (omega (arith, stands)) most (ap allWellMade (targets-alike targets team slot) ∙ good) (ap (λ p. countsWellMade p (slot .n) (slot .claimed) (slot .done)) (sym (phase-stands stands)) ∙ fit)

@@ -4,7 +4,7 @@ ghost use mathlib.Core.Bool.{Bool, true, cond};
 ghost use mathlib.Core.List.{List, map};
 ghost use Prim.Native.Nat.{ℕ, _+_, _-_, _≤_, _<_};
 ghost use Rattle.words.specs.Tests.{occurs, allOccur, distinct};
-ghost use Rattle.words.specs.Words.{teamCount, mostTargets};
+ghost use Rattle.words.specs.Words.{teamCount, mostTargets, mostNamed};
 ghost use Rattle.tickets.specs.Tickets.{target, targetsFrom, wordsIn, namedIn, targetsIn, targetWellMade, allWellMade, countsWellMade, isView, namesWellMade, wellMade, slotWellMade, wellMadeFrom, standsBelow};
 ghost use Rattle.tickets.specs.declared.Phase.the-variants.{GivingBack, Viewed};
 ghost use Rattle.tickets.specs.Table.{targetRoom, phaseBy, targetStanding, targetsOf, gathered, tableOf, tableWith};
@@ -191,6 +191,16 @@ fn is_view(kind: Kind) -> bool
     }
 }
 
+// The most targets of a ticket: of a view, the words that it may name.
+fn most_targets(view: bool) -> u16
+    ensures { λ r. ⌜ r ≡ cond view mostNamed mostTargets ⌝ }
+{
+    if view {
+        return Limits::NAMED as u16;
+    }
+    Limits::TARGETS as u16
+}
+
 // A view's named words are distinct, and its targets in some order; an edit has none.
 fn names_fit(targets: &[u64; Tickets::NUMBERS], slot: usize, n: u16, view: bool) -> bool
     requires { ⌜ (slot < teamCount) × (n ≤ mostTargets) ⌝ }
@@ -213,7 +223,9 @@ pub fn well_made(targets: &[u64; Tickets::NUMBERS], slot: usize, ticket: Ticket)
     if ticket.n <= ticket.done {
         return false;
     }
-    if (Limits::TARGETS as u16) < ticket.n {
+    let kind = ticket.kind;
+    let view = is_view(kind);
+    if most_targets(view) < ticket.n {
         return false;
     }
     if !targets_well_made(targets, slot, ticket.n) {
@@ -223,8 +235,7 @@ pub fn well_made(targets: &[u64; Tickets::NUMBERS], slot: usize, ticket: Ticket)
     if !counts_fit(phase, ticket.n, ticket.claimed, ticket.done) {
         return false;
     }
-    let kind = ticket.kind;
-    names_fit(targets, slot, ticket.n, is_view(kind))
+    names_fit(targets, slot, ticket.n, view)
 }
 
 // Whether a slot passes: a ticket that stands in it is well made.

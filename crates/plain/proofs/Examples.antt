@@ -6,11 +6,12 @@ use mathlib.Core.Bool.{Bool, true, false}
 use lib.IntN.{ℤ, pos, negsuc}
 use lib.ListN.{replicate}
 use Rattle.words.specs.Tests.{allHold}
+use Rattle.words.specs.declared.LegLayout.the-variants.{ThreeWords}
 use Rattle.legs.specs.declared.Stations.{Stations}
 use Rattle.legs.specs.declared.Measure.{Measure}
 use Rattle.edits.specs.declared.Edit.{Edit}
 use Rattle.edits.specs.declared.Edit.the-variants.{Add, Correct, Strike, Move}
-use Rattle.plain.specs.Plain.{Plain, NumberedLeg, freshPlain, findBelow, wordOf, legsBelow, legsInBook}
+use Rattle.plain.specs.Plain.{Plain, NumberedLeg, freshPlain, findBelow, wordIn, wordOf, legsBelow, legsInBook}
 use Rattle.plain.specs.Editing.{succeeds, perform, attempt}
 
 abbrev fromTo : ℕ → ℕ → Stations
@@ -205,29 +206,43 @@ move-stale :
 unfolding succeeds perform attempt findBelow allHold
 move-stale = refl
 
--- Words: newest leg and count of passages 0, 1 and 31; links of 3, 2 and 1.
+-- Words: newest leg and count of passages 0, 1 and 31; links of 3, 2 and 1; the legs just newer than these.
 passage-words : map (wordOf small) (0 ∷ 1 ∷ 2 ∷ 3 ∷ 62 ∷ 63 ∷ []) ≡ 3 ∷ 3 ∷ 4 ∷ 1 ∷ 0 ∷ 0 ∷ []
-unfolding wordOf findBelow
+unfolding wordIn findBelow
 passage-words = refl
 
-links : map (wordOf small) (70 ∷ 67 ∷ 64 ∷ []) ≡ 2 ∷ 1 ∷ 0 ∷ []
-unfolding wordOf findBelow
+links : map (wordOf small) (72 ∷ 68 ∷ 64 ∷ []) ≡ 2 ∷ 1 ∷ 0 ∷ []
+unfolding wordIn findBelow
 links = refl
+
+newer-legs : map (wordOf small) (75 ∷ 71 ∷ 67 ∷ []) ≡ 0 ∷ 3 ∷ 2 ∷ []
+unfolding wordIn findBelow
+newer-legs = refl
 
 -- Leg 1 is that of the whole case: its place and its measure.
 figures : map (wordOf small) (65 ∷ 66 ∷ []) ≡ 8388673 ∷ 76022100792200 ∷ []
-unfolding wordOf findBelow
+unfolding wordIn findBelow
 figures = refl
 
--- Leg 5 and leg 1,344 are unused.
-unused : map (wordOf small) (76 ∷ 77 ∷ 78 ∷ 4093 ∷ 4094 ∷ 4095 ∷ []) ≡ replicate 6 0
-unfolding wordOf findBelow
+-- Leg 5 and leg 1,008 are unused.
+unused : map (wordOf small) (80 ∷ 81 ∷ 82 ∷ 83 ∷ 4092 ∷ 4093 ∷ 4094 ∷ 4095 ∷ []) ≡ replicate 8 0
+unfolding wordIn findBelow
 unused = refl
 
--- Leg 2 struck: the link of 3 passes it by, the count falls, and its words are zeros.
-struck : map (wordOf (perform small (striking 3 1 3 ofTwo level))) (0 ∷ 1 ∷ 70 ∷ 67 ∷ 68 ∷ 69 ∷ []) ≡ 3 ∷ 2 ∷ 1 ∷ 0 ∷ 0 ∷ 0 ∷ []
-unfolding perform wordOf findBelow
+-- Leg 2 struck: the link of 3 and the newer word of 1 pass it by, the count falls, and its words are zeros.
+struck : map (wordOf (perform small (striking 3 1 3 ofTwo level))) (0 ∷ 1 ∷ 72 ∷ 67 ∷ 68 ∷ 69 ∷ 70 ∷ 71 ∷ []) ≡ 3 ∷ 2 ∷ 1 ∷ 3 ∷ 0 ∷ 0 ∷ 0 ∷ 0 ∷ []
+unfolding perform wordIn findBelow
 struck = refl
+
+-- Leg 2 moved to the front of passage 1: it has none newer, and leg 4 has it.
+moved : map (wordOf (perform small (moving 3 1 3 4 1 ofTwo))) (2 ∷ 72 ∷ 67 ∷ 68 ∷ 71 ∷ 79 ∷ []) ≡ 2 ∷ 1 ∷ 3 ∷ 4 ∷ 0 ∷ 2 ∷ []
+unfolding perform wordIn findBelow
+moved = refl
+
+-- The same book in three words a leg: links of 3, 2 and 1, and the words of leg 1.
+three-words : map (wordIn ThreeWords small) (70 ∷ 67 ∷ 64 ∷ 65 ∷ 66 ∷ []) ≡ 2 ∷ 1 ∷ 0 ∷ 8388673 ∷ 76022100792200 ∷ []
+unfolding wordIn findBelow
+three-words = refl
 
 -- Counts, summed over the passages.
 legs-in-small : legsInBook small ≡ 4

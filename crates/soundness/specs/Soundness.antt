@@ -7,24 +7,42 @@ use mathlib.Core.Logic.{_↔_, _≢_}
 use lib.ListN.{length}
 use lib.IntN.{ℤ}
 use Rattle.words.specs.Tests.{Every}
+use Rattle.words.specs.declared.LegLayout.{LegLayout}
+use Rattle.words.specs.declared.LegLayout.the-variants.{FourWords}
 use Rattle.words.specs.Words.{Words, wordsInBook, lastLeg, measureWord, readOf}
 use Rattle.legs.specs.Legs.{compassUnit, clinoUnit, clinoOffset, isPlumb}
-use Rattle.plain.specs.Plain.{Plain, wordOf, Sound}
+use Rattle.plain.specs.Plain.{Plain, wordIn, SoundIn}
 use Rattle.calls.specs.Run.{Call, Admitted}
 use Rattle.calls.specs.Order.{HeldBy}
 use Rattle.calls.specs.Linearizable.{heardOn, bookAfter}
 use Rattle.soundness.specs.declared.Checked.the-variants.{Yes, No}
+use Rattle.soundness.specs.Checking.{isSoundIn}
+use Rattle.soundness.specs.InWords.{plainIn}
 use Rattle.soundness.specs.Answering.{scratchBytes, checkOf}
 
+-- The words are those of a plain book in a layout.
+abbrev pub WordsOf : LegLayout → Words → Plain → Type 0
+WordsOf layout words plain = (word : ℕ) → word < wordsInBook → readOf words word ≡ wordIn layout plain word
+
 -- The words are those of some plain book that keeps its rules.
-abbrev pub OfSomePlainBook : Words → Type 0
-OfSomePlainBook words = (plain : Plain) × Sound plain × ((word : ℕ) → word < wordsInBook → readOf words word ≡ wordOf plain word)
+abbrev pub OfSomePlainBook : LegLayout → Words → Type 0
+OfSomePlainBook layout words = (plain : Plain) × SoundIn layout plain × WordsOf layout words plain
+
+-- Statement: in either layout the check is yes exactly to the words of some plain book.
+abbrev pub SoundExactly : Type 0
+SoundExactly = (layout : LegLayout) (words : Words) → (isSoundIn layout words ≡ true) ↔ OfSomePlainBook layout words
+
+-- Statement: the words tell which plain book they are of: it is the one that stands in them.
+abbrev pub WordsTellLists : Type 0
+WordsTellLists =
+    (layout : LegLayout) (words : Words) (plain : Plain) → SoundIn layout plain → WordsOf layout words plain
+    → plainIn layout words ≡ plain
 
 -- Statement: the answer is yes exactly when the book is whole, the scratch has room, and the words are those of some plain book.
 abbrev pub YesExactlyToPlainBooks : Type 0
 YesExactlyToPlainBooks =
     (words : Words) (room : ℕ)
-    → (checkOf words room ≡ Yes) ↔ ((length words ≡ wordsInBook) × (scratchBytes ≤ room) × OfSomePlainBook words)
+    → (checkOf words room ≡ Yes) ↔ ((length words ≡ wordsInBook) × (scratchBytes ≤ room) × OfSomePlainBook FourWords words)
 
 -- Statement: "a plumb leg with another compass reads as no leg, and the book check says no to it", whichever leg it is and whatever else the book holds.
 abbrev pub PlumbCompassIsUnsound : Type 0

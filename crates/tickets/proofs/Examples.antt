@@ -1,5 +1,5 @@
 -- Small books, stepped by computation: a ticket alone, two that meet on a word, one that gives back, and views.
-use Prim.Native.Nat.{ℕ}
+use Prim.Native.Nat.{ℕ, zero, suc}
 use mathlib.Core.Path.{_≡_, refl}
 use mathlib.Core.List.{List, [], _∷_, map}
 use mathlib.Core.Bool.{true, false}
@@ -133,6 +133,19 @@ named-twice = refl
 named-elsewhere : wellMade (viewing (3 ∷ 5 ∷ []) (3 ∷ 4 ∷ [])) ≡ false
 unfolding wellMade allWellMade allHold allOccur distinct
 named-elsewhere = refl
+
+-- "An edit's ticket has up to 9 targets, a view's up to 6 as before."
+abbrev upTo : ℕ → List ℕ
+upTo zero = []
+upTo (suc n) = n ∷ upTo n
+
+edits-of-many : map (λ n. wellMade (opened (map (λ word. target word 0 1) (upTo n)))) (0 ∷ 1 ∷ 7 ∷ 9 ∷ 10 ∷ []) ≡ false ∷ true ∷ true ∷ true ∷ false ∷ []
+unfolding wellMade allWellMade allHold
+edits-of-many = refl
+
+views-of-many : map (λ n. wellMade (viewing (upTo n) (upTo n))) (0 ∷ 1 ∷ 6 ∷ 7 ∷ 9 ∷ []) ≡ false ∷ true ∷ true ∷ false ∷ false ∷ []
+unfolding wellMade allWellMade allHold allOccur distinct
+views-of-many = refl
 
 -- A view alone: both claimed, both given back, the values in the order named, and the book as it was.
 view-alone : steps written (withSlot noTickets 2 both) (replicate 4 2) ≡ record { answers = Claimed 1 ∷ Claimed 2 ∷ Returned 1 ∷ seenTwo 9 7 ∷ []; words = written }

@@ -126,6 +126,7 @@ module _ (size : ℕ) (ticket : Ticket) (fit : FitTicket size ticket) (claimed d
     none-done = none-done;
     all-claimed = all-claimed;
     names = λ view. subst (λ targets. namesWellMade (map (λ one. one .new) targets) (map (λ one. one .word) targets) ≡ true) same (fit .names (was-view view));
+    few = λ view. fit .few (was-view view);
     room = λ view. fit .room (was-view view);
   }
 

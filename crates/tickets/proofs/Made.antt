@@ -4,17 +4,18 @@ use mathlib.Core.Path.{_≡_, refl, ap, subst, _∙_}
 use mathlib.Core.List.{List, [], _∷_}
 use mathlib.Core.Bool.{Bool, true, false, cond, false≢true}
 use native.Mathlib.Omega.{arith}
+use native.Mathlib.Nat.{le-trans}
 use native.Mathlib.Decide.{ℕ-discrete}
 use borrow.Author.Tests.{le-leb, lt-leb, leb-true, ltb-true, eqb-true}
 use lib.Dec.{eqb, leb, ltb}
 use Rattle.words.specs.Tests.{within}
-use Rattle.words.specs.Words.{wordsInBook, mostTargets, isValue}
+use Rattle.words.specs.Words.{wordsInBook, mostTargets, mostNamed, isValue}
 use Rattle.words.proofs.Tests.{split, join, next-test, failed-test, last-test}
 use Rattle.tickets.specs.declared.Target.{Target}
 use Rattle.tickets.specs.declared.Phase.{Phase}
 use Rattle.tickets.specs.declared.Phase.the-variants.{NoTicket, Claiming, Putting, GivingBack, Viewing, Viewed}
 use Rattle.tickets.specs.Tickets.{Ticket}
-use Rattle.tickets.specs.Tickets.{targetAt, targetsFrom, targetsIn, targetWellMade, allWellMade, countsWellMade, viewWellMade, wellMade}
+use Rattle.tickets.specs.Tickets.{targetAt, targetsFrom, targetsIn, isView, mostOf, targetWellMade, allWellMade, countsWellMade, viewWellMade, wellMade}
 use Rattle.tickets.proofs.TargetLists.{next-target, no-target-left}
 
 -- The targets' test, from target k on.
@@ -31,28 +32,36 @@ pub too-few : (ticket : Ticket) → ticket .n < 1 → wellMade ticket ≡ false
 unfolding wellMade
 too-few ticket l = failed-test _ _ (failed-test _ _ (lt-leb 1 (ticket .n) l))
 
-pub too-many : (ticket : Ticket) → 1 ≤ ticket .n → mostTargets < ticket .n → wellMade ticket ≡ false
+pub too-many : (ticket : Ticket) → 1 ≤ ticket .n → mostOf (ticket .phase) < ticket .n → wellMade ticket ≡ false
 unfolding wellMade
-too-many ticket least l = failed-test _ _ (next-test _ _ (le-leb 1 (ticket .n) least) ∙ failed-test _ _ (lt-leb (ticket .n) mostTargets l))
+too-many ticket least l = failed-test _ _ (next-test _ _ (le-leb 1 (ticket .n) least) ∙ failed-test _ _ (lt-leb (ticket .n) (mostOf (ticket .phase)) l))
 
-in-number : (n : ℕ) → 1 ≤ n → n ≤ mostTargets → within 1 mostTargets n ≡ true
-in-number n least most = join (leb 1 n ∷ leb n mostTargets ∷ []) (le-leb 1 n least, (le-leb n mostTargets most, tt))
+pub in-number : (most n : ℕ) → 1 ≤ n → n ≤ most → within 1 most n ≡ true
+in-number most n least below = join (leb 1 n ∷ leb n most ∷ []) (le-leb 1 n least, (le-leb n most below, tt))
 
-pub bad-target : (ticket : Ticket) → 1 ≤ ticket .n → ticket .n ≤ mostTargets → allWellMade (targetsIn ticket) ≡ false → wellMade ticket ≡ false
+-- No ticket has more targets than there is room for.
+pub most-of : (phase : Phase) → mostOf phase ≤ mostTargets
+most-of phase = by (isView phase)
+  where
+    by : (view : Bool) → cond view mostNamed mostTargets ≤ mostTargets
+    by true = omega arith
+    by false = omega arith
+
+pub bad-target : (ticket : Ticket) → 1 ≤ ticket .n → ticket .n ≤ mostOf (ticket .phase) → allWellMade (targetsIn ticket) ≡ false → wellMade ticket ≡ false
 unfolding wellMade
-bad-target ticket least most bad = next-test _ _ (in-number (ticket .n) least most) ∙ failed-test _ _ bad
+bad-target ticket least most bad = next-test _ _ (in-number (mostOf (ticket .phase)) (ticket .n) least most) ∙ failed-test _ _ bad
 
-pub bad-counts : (ticket : Ticket) → 1 ≤ ticket .n → ticket .n ≤ mostTargets → allWellMade (targetsIn ticket) ≡ true → countsWellMade (ticket .phase) (ticket .n) (ticket .claimed) (ticket .done) ≡ false → wellMade ticket ≡ false
+pub bad-counts : (ticket : Ticket) → 1 ≤ ticket .n → ticket .n ≤ mostOf (ticket .phase) → allWellMade (targetsIn ticket) ≡ true → countsWellMade (ticket .phase) (ticket .n) (ticket .claimed) (ticket .done) ≡ false → wellMade ticket ≡ false
 unfolding wellMade
-bad-counts ticket least most good bad = next-test _ _ (in-number (ticket .n) least most) ∙ next-test _ _ good ∙ failed-test _ _ bad
+bad-counts ticket least most good bad = next-test _ _ (in-number (mostOf (ticket .phase)) (ticket .n) least most) ∙ next-test _ _ good ∙ failed-test _ _ bad
 
-pub by-view : (ticket : Ticket) → 1 ≤ ticket .n → ticket .n ≤ mostTargets → allWellMade (targetsIn ticket) ≡ true → countsWellMade (ticket .phase) (ticket .n) (ticket .claimed) (ticket .done) ≡ true → wellMade ticket ≡ viewWellMade (ticket .phase) ticket
+pub by-view : (ticket : Ticket) → 1 ≤ ticket .n → ticket .n ≤ mostOf (ticket .phase) → allWellMade (targetsIn ticket) ≡ true → countsWellMade (ticket .phase) (ticket .n) (ticket .claimed) (ticket .done) ≡ true → wellMade ticket ≡ viewWellMade (ticket .phase) ticket
 unfolding wellMade
-by-view ticket least most good counts = next-test _ _ (in-number (ticket .n) least most) ∙ next-test _ _ good ∙ next-test _ _ counts ∙ last-test _
+by-view ticket least most good counts = next-test _ _ (in-number (mostOf (ticket .phase)) (ticket .n) least most) ∙ next-test _ _ good ∙ next-test _ _ counts ∙ last-test _
 
 -- What makes a ticket well made.
 pub record WellMade (ticket : Ticket) : Type 0 where
-  pub many : within 1 mostTargets (ticket .n) ≡ true
+  pub many : within 1 (mostOf (ticket .phase)) (ticket .n) ≡ true
   pub targets : allWellMade (targetsIn ticket) ≡ true
   pub counts : countsWellMade (ticket .phase) (ticket .n) (ticket .claimed) (ticket .done) ≡ true
   pub view : viewWellMade (ticket .phase) ticket ≡ true
@@ -60,7 +69,7 @@ pub record WellMade (ticket : Ticket) : Type 0 where
 -- The four tests of a ticket.
 abbrev testsOf : Ticket → List Bool
 testsOf ticket =
-    within 1 mostTargets (ticket .n)
+    within 1 (mostOf (ticket .phase)) (ticket .n)
     ∷ allWellMade (targetsIn ticket)
     ∷ countsWellMade (ticket .phase) (ticket .n) (ticket .claimed) (ticket .done)
     ∷ viewWellMade (ticket .phase) ticket
@@ -113,10 +122,10 @@ pub record Made (ticket : Ticket) : Type 0 where
 pub made : (ticket : Ticket) → wellMade ticket ≡ true → Made ticket
 made ticket h =
     let parts = well-made-parts ticket h in
-    let (least, (most, u)) = split (leb 1 (ticket .n) ∷ leb (ticket .n) mostTargets ∷ []) (parts .many) in
+    let (least, (most, u)) = split (leb 1 (ticket .n) ∷ leb (ticket .n) (mostOf (ticket .phase)) ∷ []) (parts .many) in
     record {
       least = leb-true _ _ least;
-      most = leb-true _ _ most;
+      most = le-trans (leb-true _ _ most) (most-of (ticket .phase));
       targets = λ k l. target-fits (targetAt ticket k) (each-target ticket 0 (ticket .n) (parts .targets) k (omega arith) (omega arith));
       counts = parts .counts;
     }

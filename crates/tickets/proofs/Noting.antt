@@ -72,5 +72,6 @@ module _ (ticket : Ticket) (value : ℕ) where
       none-done = fit .none-done;
       all-claimed = fit .all-claimed;
       names = λ is-view. subst₂ (λ names words. namesWellMade names words ≡ true) (sym (names-noting ticket value)) (sym (words-noting ticket value)) (fit .names is-view);
+      few = fit .few;
       room = λ is-view. omega (arith, fit .room is-view, length-set (ticket .quoted) (ticket .claimed) value);
     }

@@ -32,5 +32,6 @@ opening-keeps words tickets plain team opened i none new = same-held i team open
       none-done = λ e. new .none-done;
       all-claimed = λ putting. absurd (true≢false (sym (new .opens) ∙ ap claims putting));
       names = new .names;
+      few = new .few;
       room = new .room;
     }

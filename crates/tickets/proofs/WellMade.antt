@@ -1,5 +1,5 @@
 -- A fit ticket of a whole book is well made, and a step leaves a well-made ticket well made or gone.
-use Prim.Native.Nat.{ℕ, suc, _+_, _^_, _<_, suc-le-suc, zero-le}
+use Prim.Native.Nat.{ℕ, suc, _+_, _^_, _≤_, _<_, suc-le-suc, zero-le}
 use mathlib.Core.Path.{_≡_, refl, sym, ap, subst, _∙_}
 use mathlib.Core.List.{List, [], _∷_, map}
 use mathlib.Core.Bool.{Bool, true, false, cond, false≢true}
@@ -8,18 +8,19 @@ use native.Mathlib.Omega.{arith}
 use lib.Dec.{eqb, leb, ltb}
 use lib.ListN.{length}
 use borrow.Author.Tests.{ltb-true, lt-ltb, le-leb, eqb-true, eq-eqb}
-use Rattle.words.specs.Words.{wordsInBook, mostTargets, isValue}
+use Rattle.words.specs.Tests.{within}
+use Rattle.words.specs.Words.{wordsInBook, mostTargets, mostNamed, isValue}
 use Rattle.words.proofs.Tests.{split, join}
 use Rattle.tickets.specs.declared.Target.{Target}
 use Rattle.tickets.specs.declared.Phase.{Phase}
 use Rattle.tickets.specs.declared.Phase.the-variants.{NoTicket, Claiming, Putting, GivingBack, Viewing, Viewed}
 use Rattle.tickets.specs.Tickets.{Ticket}
 use Rattle.tickets.specs.declared.StepAnswer.{StepAnswer}
-use Rattle.tickets.specs.Tickets.{noTicket, targetAt, targetsIn, wordsIn, namedIn, hasTicket, isView, targetWellMade, allWellMade, countsWellMade, namesWellMade, viewWellMade, wellMade}
+use Rattle.tickets.specs.Tickets.{noTicket, targetAt, targetsIn, wordsIn, namedIn, hasTicket, isView, mostOf, targetWellMade, allWellMade, countsWellMade, namesWellMade, viewWellMade, wellMade}
 use Rattle.tickets.specs.Steps.{advanced, stepped, noting, settled}
 use Rattle.tickets.specs.Targets.{targetIn, Claimable}
 use Rattle.tickets.specs.Invariant.{FitWellMade, WellMadeKept}
-use Rattle.tickets.proofs.Made.{WellMade, well-made-parts, parts-well-made, made}
+use Rattle.tickets.proofs.Made.{WellMade, well-made-parts, parts-well-made, made, in-number}
 use Rattle.tickets.proofs.TargetLists.{length-targets, target-listed, targets-advanced}
 use Rattle.tickets.proofs.Names.{words-noting, names-noting, noted-either}
 use Rattle.tickets.proofs.Keeping.{standing-fit}
@@ -39,13 +40,17 @@ claimable-well-made targets claimable = each-well-made targets (λ k below.
 
 pub fit-well-made : FitWellMade
 fit-well-made ticket slot stands = let fit = standing-fit wordsInBook ticket slot stands in parts-well-made ticket record {
-  many = join (leb 1 (ticket .n) ∷ leb (ticket .n) mostTargets ∷ [])
-      (le-leb 1 (ticket .n) (omega (arith, fit .claimable .some, length-targets ticket)), (le-leb (ticket .n) mostTargets (omega (arith, fit .claimable .most, length-targets ticket)), tt));
+  many = in-number (mostOf (ticket .phase)) (ticket .n) (omega (arith, fit .claimable .some, length-targets ticket))
+      (most-by (isView (ticket .phase)) (ticket .n) (fit .few) (omega (arith, fit .claimable .most, length-targets ticket)));
   targets = claimable-well-made (targetsIn ticket) (fit .claimable);
   counts = fit .counts;
   view = only-views (isView (ticket .phase)) (namesWellMade (namedIn ticket) (wordsIn ticket)) (fit .names);
 }
   where
+    most-by : (view : Bool) (n : ℕ) → (view ≡ true → n ≤ mostNamed) → n ≤ mostTargets → n ≤ cond view mostNamed mostTargets
+    most-by true n few most = few refl
+    most-by false n few most = most
+
     only-views : (view test : Bool) → (view ≡ true → test ≡ true) → cond view test true ≡ true
     only-views true test holds = holds refl
     only-views false test holds = refl
@@ -91,7 +96,7 @@ module _ (ticket : Ticket) (parts : WellMade ticket) where
   -- It goes on with the same targets.
   goes-on : (phase : Phase) (claimed done : ℕ) → isView phase ≡ isView (ticket .phase) → countsWellMade phase (ticket .n) claimed done ≡ true → wellMade (advanced ticket phase claimed done) ≡ true
   goes-on phase claimed done kind counts = let same = targets-advanced ticket phase claimed done in parts-well-made (advanced ticket phase claimed done) record {
-    many = parts .many;
+    many = ap (λ view. within 1 (cond view mostNamed mostTargets) (ticket .n)) kind ∙ parts .many;
     targets = ap allWellMade same ∙ parts .targets;
     counts = counts;
     view = same-view ticket (advanced ticket phase claimed done) kind (ap (map (λ target. target .new)) same) (ap (map (λ target. target .word)) same) ∙ parts .view;

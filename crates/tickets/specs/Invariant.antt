@@ -6,7 +6,7 @@ use mathlib.Core.List.{map}
 use mathlib.Core.Logic.{_⊎_, _↔_}
 use lib.ListN.{length, replicate}
 use lib.Dec.{eqb}
-use Rattle.words.specs.Words.{Words, wordsInBook, markOf, holderOf, readOf}
+use Rattle.words.specs.Words.{Words, wordsInBook, mostNamed, markOf, holderOf, readOf}
 use Rattle.tickets.specs.declared.Target.{Target}
 use Rattle.tickets.specs.declared.Phase.{Phase}
 use Rattle.tickets.specs.declared.Phase.the-variants.{NoTicket, Claiming, Putting, GivingBack, Viewing, Viewed}
@@ -47,13 +47,14 @@ pub record Holder (tickets : ℕ → Ticket) (word : ℕ) : Type 0 where
   pub value : ℕ
   pub holds : Holds (tickets team) word value
 
--- A standing ticket that is fit for a book of so many words: its targets can be claimed, its counts are those of its phase, nothing is done while it claims, all is claimed while it is putting, a view's named words are its targets, and it has room for their values.
+-- A standing ticket that is fit for a book of so many words: its targets can be claimed, its counts are those of its phase, nothing is done while it claims, all is claimed while it is putting, a view's named words are its targets, not more than a view may name, and it has room for their values.
 pub record FitTicket (size : ℕ) (ticket : Ticket) : Type 0 where
   pub claimable : Claimable size (targetsIn ticket)
   pub counts : countsWellMade (ticket .phase) (ticket .n) (ticket .claimed) (ticket .done) ≡ true
   pub none-done : claims (ticket .phase) ≡ true → ticket .done ≡ 0
   pub all-claimed : ticket .phase ≡ Putting → ticket .claimed ≡ ticket .n
   pub names : isView (ticket .phase) ≡ true → namesWellMade (namedIn ticket) (wordsIn ticket) ≡ true
+  pub few : isView (ticket .phase) ≡ true → ticket .n ≤ mostNamed
   pub room : isView (ticket .phase) ≡ true → ticket .n ≤ length (ticket .quoted)
 
 -- Which targets, counted from 0, a ticket holds, phase by phase.
@@ -118,6 +119,7 @@ pub record OpenedTicket (size : ℕ) (ticket : Ticket) : Type 0 where
   pub none-done : ticket .done ≡ 0
   pub claimable : Claimable size (targetsIn ticket)
   pub names : isView (ticket .phase) ≡ true → namesWellMade (namedIn ticket) (wordsIn ticket) ≡ true
+  pub few : isView (ticket .phase) ≡ true → ticket .n ≤ mostNamed
   pub room : isView (ticket .phase) ≡ true → ticket .n ≤ length (ticket .quoted)
 
 -- Statement: opening a ticket for a team that has none keeps it, with the same words and the same plain words.

@@ -19,7 +19,7 @@ use Rattle.tickets.specs.Steps.{oneMoreTry}
 
 -- Room for the targets of one team.
 abbrev pub targetRoom : ℕ
-targetRoom = 9
+targetRoom = mostTargets
 
 -- Where target k of a team stands, counted from 0: its word, and behind that its quoted and its new value.
 abbrev pub placeOf : ℕ → ℕ → ℕ

@@ -263,8 +263,8 @@ impl Ticket {
 }
 
 impl Tickets {
-    // Room for the targets of one team: more than a ticket has today.
-    pub const ROOM: usize = 9;
+    // Room for the targets of one team.
+    pub const ROOM: usize = Limits::TARGETS;
 
     // The numbers of one target, and of all.
     pub const TARGET: usize = 3;

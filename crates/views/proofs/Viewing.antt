@@ -2,26 +2,40 @@
 use Prim.Native.Nat.{ℕ, _+_, _≤_, _<_}
 use mathlib.Core.Path.{_≡_, refl, sym, ap, subst, _∙_}
 use mathlib.Core.Bool.{Bool, true, false, cond}
-use mathlib.Core.List.{List}
+use mathlib.Core.List.{List, [], _∷_}
 use native.Mathlib.Omega.{arith}
+use borrow.Author.Tests.{leb-true}
+use lib.Dec.{leb}
 use lib.ListN.{length, getD, set}
 use lib.Seq.{getD-set-other}
-use Rattle.words.specs.Words.{Words, teamCount, isHeld, markOf, holderOf, readOf, swapOf, anyValue}
+use Rattle.words.specs.Words.{Words, teamCount, mostNamed, isHeld, markOf, holderOf, readOf, swapOf, anyValue}
+use Rattle.words.specs.Tests.{within}
+use Rattle.words.proofs.Tests.{split}
 use Rattle.tickets.specs.declared.Phase.the-variants.{Viewing, Viewed}
 use Rattle.tickets.specs.declared.StepAnswer.the-variants as Answer
 use Rattle.tickets.specs.declared.Target.{Target}
 use Rattle.tickets.specs.declared.Ticket as Slot
-use Rattle.tickets.specs.Tickets.{Ticket, noTicket, targetAt}
+use Rattle.tickets.specs.Tickets.{Ticket, noTicket, targetAt, mostOf}
 use Rattle.tickets.specs.Steps.{Stepped, tries, advanced, stepped, viewClaimed, viewWaited, valuesFrom, valueNamed, valuesSeen, viewGivenBack, swapTriedIn, stepOf}
 use Rattle.tickets.specs.Table.{targetRoom, placeOf, targetStanding, notedAt, triedSlot, doneWithOne, standsIn, standing, targetsOf, gathered, ElsewhereSame}
 use Rattle.tickets.proofs.Gathering.{gathered-tried}
+use Rattle.tickets.proofs.Made.{well-made-parts}
 use Rattle.tickets.proofs.Settled.{settled-view-waited, settled-view-claimed}
 use Rattle.tickets.proofs.Viewing.{gathered-viewed, gathered-seen}
 use Rattle.frames.specs.Numbers.{Bytes}
 use Rattle.replies.specs.Leaving.{Answered, StepsFrom, LeftBy}
-use Rattle.replies.proofs.Standing.{phase-tells, given-more, given-last, made-stands, is-standing, standing-phase, few-targets, target-read, counts-there}
+use Rattle.replies.proofs.Standing.{phase-tells, given-more, given-last, made-stands, is-standing, standing-phase, well-standing, few-targets, target-read, counts-there}
 use Rattle.replies.proofs.Stepping.{step-left}
 use Rattle.views.proofs.Seeing.{values-seen-by, standing-seen}
+
+-- A view that gives back names at most so many words.
+pub few-named : (words : Words) (targets : List ℕ) (team : ℕ) (slot : Slot.Ticket) (out : Bytes) (at : ℕ) → StepsFrom Viewed words targets team slot out at → slot .n ≤ mostNamed
+few-named words targets team slot out at known =
+    let well = known .steps-in .made in
+    let many = well-made-parts (standing targets team slot) (well-standing targets team slot well) .many in
+    let phase : standing targets team slot .phase ≡ Viewed = standing-phase targets team slot well ∙ known .phase-known in
+    let (_, (most, _)) = split (leb 1 (slot .n) ∷ leb (slot .n) mostNamed ∷ []) (sym (ap (λ p. within 1 (mostOf p) (slot .n)) phase) ∙ many) in
+    leb-true _ _ most
 
 -- A value noted for one of a team's targets changes nothing elsewhere.
 pub noted-elsewhere : (targets numbers : List ℕ) (team k value : ℕ) → k < targetRoom → numbers ≡ notedAt targets team k value → ElsewhereSame targets numbers team

@@ -2,7 +2,7 @@
 ghost use mathlib.Core.Path.{_≡_};
 ghost use Prim.Native.Nat.{ℕ, _*_, _≤_, _<_};
 ghost use lib.ListN.{length, getD};
-ghost use Rattle.words.specs.Words.{teamCount, mostTargets};
+ghost use Rattle.words.specs.Words.{teamCount, mostTargets, mostNamed};
 ghost use Rattle.tickets.specs.declared.Phase.the-variants.{Viewing, Viewed};
 ghost use Rattle.tickets.specs.Tickets.{targetsIn};
 ghost use Rattle.tickets.specs.Steps.{valueNoted, valueNamed, stepOf};
@@ -73,7 +73,7 @@ fn value_noted(targets: &[u64; Tickets::NUMBERS], slot: usize, n: u16, word: u64
 
 // The values noted, in the order named.
 fn values_seen(targets: &[u64; Tickets::NUMBERS], slot: usize, n: u16) -> [u64; Limits::NAMED]
-    requires { ⌜ (slot < teamCount) × (n ≤ mostTargets) ⌝ }
+    requires { ⌜ (slot < teamCount) × (n ≤ mostNamed) ⌝ }
     ensures { λ r. ⌜ ((k : ℕ) → getD r k 0 ≡ valueNamed (targetsOf (now (targets .entry)) slot n) k) ⌝ }
 {
     let mut values = [0; Limits::NAMED];

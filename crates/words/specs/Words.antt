@@ -4,6 +4,8 @@ use mathlib.Core.List.{List}
 use mathlib.Core.Bool.{Bool, cond}
 use lib.ListN.{getD, set}
 use lib.Dec.{eqb, ltb, leb}
+use Rattle.words.specs.declared.LegLayout.{LegLayout}
+use Rattle.words.specs.declared.LegLayout.the-variants.{ThreeWords, FourWords}
 
 -- A book's words, lent by the caller.
 abbrev pub Words : Type 0
@@ -44,11 +46,11 @@ nobody = 65535
 abbrev pub holderOf : ℕ → ℕ
 holderOf word = cond (isHeld word) (cond (ltb (word - 2 ^ 63) teamCount) (word - 2 ^ 63) nobody) nobody
 
--- A ticket has up to six targets,
+-- An edit's ticket has up to nine targets.
 abbrev pub mostTargets : ℕ
-mostTargets = 6
+mostTargets = 9
 
--- and a view names up to six words.
+-- A view's ticket has up to six, as many as it names words.
 abbrev pub mostNamed : ℕ
 mostNamed = 6
 
@@ -64,23 +66,46 @@ newestWord passage = 2 * passage
 abbrev pub countWord : ℕ → ℕ
 countWord passage = newestWord passage + 1
 
--- Legs 1 to 1,344; leg number 0 means none.
-abbrev pub lastLeg : ℕ
-lastLeg = 1344
-
 -- The legs' words start at 64, behind those of the passages.
 abbrev pub firstLegWord : ℕ
 firstLegWord = newestWord passageCount
 
--- Leg r has three words from 64 + 3(r − 1): link, place, measure. The link is the next older leg of the passage.
+-- A leg has three words, and a fourth since chains run both ways (request 10).
+abbrev pub legWords : LegLayout → ℕ
+legWords ThreeWords = 3
+legWords FourWords = 4
+
+-- As many legs as the book has room for: 1 to 1,344, with four words each 1 to 1,008. Leg number 0 means none.
+abbrev pub lastLegIn : LegLayout → ℕ
+lastLegIn ThreeWords = 1344
+lastLegIn FourWords = 1008
+
+-- Leg r starts at word 64 + 3(r − 1), or "at word 64 + 4(r − 1)": link, place, measure. The link is the next older leg of the passage.
+abbrev pub linkWordIn : LegLayout → ℕ → ℕ
+linkWordIn layout leg = firstLegWord + legWords layout * (leg - 1)
+
+abbrev pub placeWordIn : LegLayout → ℕ → ℕ
+placeWordIn layout leg = linkWordIn layout leg + 1
+
+abbrev pub measureWordIn : LegLayout → ℕ → ℕ
+measureWordIn layout leg = linkWordIn layout leg + 2
+
+-- The layout in force has four words a leg; in the other one are books that are carried over.
+abbrev pub lastLeg : ℕ
+lastLeg = lastLegIn FourWords
+
 abbrev pub linkWord : ℕ → ℕ
-linkWord leg = firstLegWord + 3 * (leg - 1)
+linkWord leg = linkWordIn FourWords leg
 
 abbrev pub placeWord : ℕ → ℕ
-placeWord leg = linkWord leg + 1
+placeWord leg = placeWordIn FourWords leg
 
 abbrev pub measureWord : ℕ → ℕ
-measureWord leg = linkWord leg + 2
+measureWord leg = measureWordIn FourWords leg
+
+-- "A fourth word, the next newer leg, 0 for the newest."
+abbrev pub newerWord : ℕ → ℕ
+newerWord leg = linkWord leg + 3
 
 -- The read (source document 000, Figure 8): one word.
 abbrev pub readOf : Words → ℕ → ℕ

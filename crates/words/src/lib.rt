@@ -4,7 +4,7 @@ ghost use mathlib.Core.Bool.{Bool, true};
 ghost use Prim.Native.Nat.{_≤_, _<_};
 ghost use lib.ListN.{length, take, drop};
 ghost use Rattle.words.specs.Tests.{occurs, distinct};
-ghost use Rattle.words.specs.Words.{teamCount, mostNamed, passageCount, lastLeg, isHeld, markOf, holderOf, newestWord, countWord, linkWord, placeWord, measureWord, readOf, swapOf, anyValue};
+ghost use Rattle.words.specs.Words.{teamCount, mostNamed, passageCount, lastLegIn, lastLeg, isHeld, markOf, holderOf, newestWord, countWord, linkWordIn, linkWord, placeWord, measureWord, newerWord, readOf, swapOf, anyValue};
 
 // The limits of the book and its layout.
 pub struct Limits {}
@@ -24,12 +24,12 @@ impl Limits {
     pub const TEAMS: usize = 16;
 
     // The last leg's number; legs start at 1, and 0 means none.
-    pub const LAST_LEG: u16 = 1344;
+    pub const LAST_LEG: u16 = 1008;
 
-    // The most targets of a ticket,
-    pub const TARGETS: usize = 6;
+    // The most targets of a ticket: a move's, with both of its neighbours' newer words.
+    pub const TARGETS: usize = 9;
 
-    // and the most words that a view names.
+    // The most words that a view names.
     pub const NAMED: usize = 6;
 
     // The shelves of a store, each of which keeps a book.
@@ -44,8 +44,19 @@ impl Limits {
     // A passage's words: the newest leg, the count of legs.
     pub const PASSAGE_WORDS: u16 = 2;
 
-    // A leg's words: link, place, measure.
-    pub const LEG_WORDS: u16 = 3;
+    // A leg's words: link, place, measure, newer.
+    pub const LEG_WORDS: u16 = 4;
+
+    // The same of books from before chains ran both ways, in which a leg has no newer word.
+    pub const LAST_OLD_LEG: u16 = 1344;
+
+    pub const OLD_LEG_WORDS: u16 = 3;
+}
+
+// How many words a leg has: three in books from before chains ran both ways, four since.
+pub enum LegLayout {
+    ThreeWords,
+    FourWords,
 }
 
 pub fn is_held(word: u64) -> bool
@@ -109,6 +120,34 @@ pub fn measure_word(leg: u16) -> u16
     ensures { λ r. ⌜ r ≡ measureWord leg ⌝ }
 {
     link_word(leg) + 2
+}
+
+pub fn newer_word(leg: u16) -> u16
+    requires { ⌜ (1 ≤ leg) × (leg ≤ lastLeg) ⌝ }
+    ensures { λ r. ⌜ r ≡ newerWord leg ⌝ }
+{
+    link_word(leg) + 3
+}
+
+pub fn last_leg_in(layout: LegLayout) -> u16
+    ensures { λ r. ⌜ r ≡ lastLegIn layout ⌝ }
+{
+    match layout {
+        LegLayout::ThreeWords => Limits::LAST_OLD_LEG,
+        LegLayout::FourWords => Limits::LAST_LEG,
+    }
+}
+
+// Where a leg starts in either layout; its place and its measure are the next two words.
+pub fn link_word_in(layout: LegLayout, leg: u16) -> u16
+    requires { ⌜ (1 ≤ leg) × (leg ≤ lastLegIn layout) ⌝ }
+    ensures { λ r. ⌜ r ≡ linkWordIn layout leg ⌝ }
+{
+    match layout {
+        LegLayout::ThreeWords => Limits::PASSAGE_WORDS * Limits::PASSAGES
+            + Limits::OLD_LEG_WORDS * (leg - 1),
+        LegLayout::FourWords => link_word(leg),
+    }
 }
 
 // One read of one word (Figure 8, without its loop).

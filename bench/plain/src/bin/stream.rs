@@ -33,8 +33,8 @@ const STEEPEST: i16 = 9_000;
 /// Compasses in range are below this.
 const COMPASSES: u16 = 36_000;
 /// The book fills up to so many legs, then empties to so few, then fills again.
-const MANY: usize = 1_100;
-const FEW: usize = 400;
+const MANY: usize = 825;
+const FEW: usize = 300;
 
 /// Numbers at random (SplitMix64).
 struct Dice(u64);
@@ -675,7 +675,7 @@ impl Teams {
         Writer::new(LOOK, self.dice.below(end) as u16).whole()
     }
 
-    /// A view of a leg, or of one to six words of it, its passage and the next leg.
+    /// A view of a leg, or of one to six words of it and its passage.
     /// A look if no team is free.
     fn view(&mut self) -> (Frame, usize) {
         let first = self.dice.below(TEAMS as u64) as u16;
@@ -684,7 +684,7 @@ impl Teams {
             return self.look();
         };
         let p = self.passage(team);
-        let link = 61 + 3 * self.lists.newest(p).clamp(1, LAST_LEG - 1);
+        let link = 60 + 4 * self.lists.newest(p).max(1);
         let words = [link + 2, link + 1, link, 2 * p, 2 * p + 1, link + 3];
         let any = 1 + self.dice.below(words.len() as u64) as usize;
         let n = if self.dice.percent(50) { 3 } else { any };
@@ -702,9 +702,10 @@ impl Teams {
         }
         let Some(edit) = self.open[team] else { return };
         let targets = match edit {
-            Edit::Add { .. } | Edit::Strike { .. } => 5,
+            Edit::Add { h, .. } => 5 + (h != 0) as u16,
             Edit::Correct { .. } => 2,
-            Edit::Move { .. } => 6,
+            Edit::Strike { s, .. } => 6 + (s != 0) as u16,
+            Edit::Move { s, h, .. } => 7 + (s != 0) as u16 + (h != 0) as u16,
         };
         match answer.kind() {
             CLAIMED if answer.field() == targets => {

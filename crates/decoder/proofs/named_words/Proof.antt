@@ -7,14 +7,14 @@ use Prim.Native.Nat.{ℕ, _-_, _≤_, _<_}
 use lib.ListN.{set}
 use denote.Ref.{now}
 use Rattle.words.specs.Words.{mostNamed}
-use Rattle.tickets.specs.Tickets.{padded}
+use Rattle.edits.specs.Views.{paddedNames}
 use Rattle.frames.specs.Numbers.{numbers16}
 use Rattle.decoder.proofs.Viewed.{word-read, many-words}
 use Rattle.decoder.proofs.named_words.Statement.{statement}
 use Rattle.decoder.proofs.named_words.Tie as tie
 
 abbrev Inv-loop : tie.InvT-loop
-Inv-loop part n words₀ k₀ words k = (words ≡ padded (numbers16 k part 4)) × (k ≤ n)
+Inv-loop part n words₀ k₀ words k = (words ≡ paddedNames (numbers16 k part 4)) × (k ≤ n)
 
 abbrev μ-loop : tie.MeasureT-loop
 μ-loop part n words₀ k₀ words k = n - k
@@ -64,7 +64,7 @@ returns c =
     let start = c .before .before .before in
     let part = now (start .args .part) in
     let all : c .before .loop .k ≡ start .args .n = omega (arith, c .before .loop .inv .1, c .loop-test .left) in
-    c .before .loop .inv .0 ∙ ap (λ (i : ℕ). padded (numbers16 i part 4)) (all ∙ sym (many-words part (start .args .n) (start .pre .1)))
+    c .before .loop .inv .0 ∙ ap (λ (i : ℕ). paddedNames (numbers16 i part 4)) (all ∙ sym (many-words part (start .args .n) (start .pre .1)))
 
 pub named-words-spec : {M : Type 1} → statement M
 named-words-spec =

@@ -14,20 +14,20 @@ abbrev μ-loop : tie.MeasureT-loop
 loop-holds : tie.Need-loop-holds Inv-loop μ-loop
 loop-holds c = search needs
 
-mul-tell-word : tie.Need-mul-tell-word Inv-loop μ-loop
-mul-tell-word c = search needs
+mul-change : tie.Need-mul-change Inv-loop μ-loop
+mul-change c = search needs
 
-element-copy-out-tell-word : tie.Need-element-copy-out-tell-word Inv-loop μ-loop
-element-copy-out-tell-word c = search needs
+element-copy-out-change : tie.Need-element-copy-out-change Inv-loop μ-loop
+element-copy-out-change c = search needs
 
-mul-tell-word-2 : tie.Need-mul-tell-word-2 Inv-loop μ-loop
-mul-tell-word-2 c = search needs
+mul-change-2 : tie.Need-mul-change-2 Inv-loop μ-loop
+mul-change-2 c = search needs
 
-element-copy-out-tell-word-2 : tie.Need-element-copy-out-tell-word-2 Inv-loop μ-loop
-element-copy-out-tell-word-2 c = search needs
+element-copy-out-change-2 : tie.Need-element-copy-out-change-2 Inv-loop μ-loop
+element-copy-out-change-2 c = search needs
 
-tell-word-requires : tie.Need-tell-word-requires Inv-loop μ-loop
-tell-word-requires c κs = search needs
+change-requires : tie.Need-change-requires Inv-loop μ-loop
+change-requires c κs = search needs
 
 add-word : tie.Need-add-word Inv-loop μ-loop
 add-word c = search needs
@@ -48,11 +48,11 @@ tell-words-spec =
     Inv-loop
     μ-loop
     loop-holds
-    mul-tell-word
-    element-copy-out-tell-word
-    mul-tell-word-2
-    element-copy-out-tell-word-2
-    tell-word-requires
+    mul-change
+    element-copy-out-change
+    mul-change-2
+    element-copy-out-change-2
+    change-requires
     add-word
     loop-less
     loop-again

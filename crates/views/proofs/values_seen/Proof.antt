@@ -31,7 +31,7 @@ element-copy-out-value-noted : tie.Need-element-copy-out-value-noted Inv-loop μ
 element-copy-out-value-noted c = omega (arith, c .place .ensures .1)
 
 value-noted-requires : tie.Need-value-noted-requires Inv-loop μ-loop
-value-noted-requires c κs = c .before .before .before .before .pre
+value-noted-requires c κs = let start = c .before .before .before .before in (start .pre .0, omega (arith, start .pre .1))
 
 cast-values : tie.Need-cast-values Inv-loop μ-loop
 cast-values c = omega arith
@@ -63,7 +63,7 @@ loop-again c =
     let args = start .args in
     let below = turn .loop-test .taken in
     shown-next (loop .values) (targetsOf (now (args .targets)) (args .slot) (args .n)) (loop .k) (c .value-noted .result) (loop .inv) (omega (arith, below, start .pre .1))
-    (shown-read (now (args .targets)) (args .slot) (args .n) (loop .k) (place .result) below (start .pre .1) (place .ensures .0) (c .value-noted .result) (c .value-noted .ensures))
+    (shown-read (now (args .targets)) (args .slot) (args .n) (loop .k) (place .result) below (omega (arith, start .pre .1)) (place .ensures .0) (c .value-noted .result) (c .value-noted .ensures))
 
 returns : tie.Need-returns Inv-loop μ-loop
 returns c =

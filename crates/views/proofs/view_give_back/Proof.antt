@@ -2,10 +2,10 @@
 use mathlib.Core.Path.{sym, _∙_}
 use native.Mathlib.Omega.{arith}
 use denote.Ref.{now}
-use Rattle.replies.proofs.Standing.{few-targets, target-asked}
+use Rattle.replies.proofs.Standing.{target-asked}
 use Rattle.replies.proofs.Stepping.{target-inside}
 use Rattle.tickets.specs.declared.Phase.the-variants.{Viewed}
-use Rattle.views.proofs.Viewing.{next-claimed, view-returns, view-sees}
+use Rattle.views.proofs.Viewing.{few-named, next-claimed, view-returns, view-sees}
 use borrow.Author.Needs.{needs}
 use Rattle.views.proofs.view_give_back.Statement.{statement}
 use Rattle.views.proofs.view_give_back.Tie as tie
@@ -70,7 +70,7 @@ values-seen-requires : tie.Need-values-seen-requires
 values-seen-requires c κs =
     let start = c .before .before .before .before .before .before .before .before .before .before .before .before in
     let args = start .args in
-    (start .pre .steps-in .team-known, few-targets (now (args .targets)) (args .slot) (args .ticket) (start .pre .steps-in .made))
+    (start .pre .steps-in .team-known, few-named (now (args .book)) (now (args .targets)) (args .slot) (args .ticket) (now (args .out)) (args .at) (start .pre))
 
 put-seen-requires : tie.Need-put-seen-requires
 put-seen-requires c κs = search needs

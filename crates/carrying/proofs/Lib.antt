@@ -1,0 +1,5 @@
+pub mod Carrying
+pub mod Answers
+pub mod Links
+pub mod Above
+mod Examples
