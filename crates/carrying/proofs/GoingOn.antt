@@ -1,11 +1,10 @@
 -- A carried book is a start: its words are those of the plain book of the old words, which keeps the rules of four words a leg.
 use mathlib.Core.Path.{_≡_, refl, sym, ap, subst, _∙_}
-use mathlib.Core.Bool.{false}
 use lib.ListN.{length}
 use Rattle.words.specs.declared.LegLayout.the-variants.{ThreeWords, FourWords}
 use Rattle.words.specs.Words.{Words, wordsInBook}
 use Rattle.tickets.specs.Tickets.{Tickets}
-use Rattle.plain.specs.Plain.{Plain, Sound}
+use Rattle.plain.specs.Plain.{Sound}
 use Rattle.calls.specs.declared.Outcome.the-variants.{Done}
 use Rattle.soundness.specs.InWords.{plainIn}
 use Rattle.soundness.specs.Soundness.{WordsOf}

@@ -4,3 +4,4 @@ pub mod Links
 pub mod Above
 pub mod GoingOn
 mod Examples
+mod ExampleGoingOn
