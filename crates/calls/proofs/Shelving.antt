@@ -2,7 +2,7 @@
 use mathlib.Core.Path.{_≡_, refl, sym, ap, subst, _∙_}
 use mathlib.Core.Bool.{Bool, true, false, cond, not, true≢false}
 use mathlib.Core.List.{[], _∷_, _++_}
-use mathlib.Core.Logic.{_≢_, inl}
+use mathlib.Core.Logic.{_≢_}
 use mathlib.Core.Option.{Option, none, some}
 use Prim.Native.Nat.{ℕ, zero, suc, _+_, _-_, _<_}
 use native.Mathlib.Omega.{arith}
@@ -19,6 +19,7 @@ use Rattle.tickets.specs.declared.Phase.{Phase}
 use Rattle.tickets.specs.declared.Phase.the-variants.{NoTicket, Claiming, Putting, GivingBack, Viewing, Viewed}
 use Rattle.tickets.specs.Tickets.{Ticket, Tickets, noTicket, ticketOf, hasTicket, standsBelow}
 use Rattle.tickets.specs.Invariant.{Invariant}
+use Rattle.tickets.proofs.Opening.{holds-at-start}
 use Rattle.tickets.proofs.Looking.{unheld-plain}
 use Rattle.plain.specs.Plain.{Plain, wordOf, Sound}
 use Rattle.plain.proofs.Values.{words-are-values}
@@ -142,12 +143,9 @@ module _ (store book : Words) (shelf : ℕ) (long : length store ≡ wordsInStor
 -- Where no ticket stands, a whole book with the words of a sound plain book agrees with it.
 pub agrees-alone : (book : Words) (tickets : ℕ → Ticket) (plain : Plain) → ((team : ℕ) → hasTicket (tickets team .phase) ≡ false) → length book ≡ wordsInBook → Sound plain
     → ((word : ℕ) → word < wordsInBook → readOf book word ≡ wordOf plain word) → Invariant book tickets (wordOf plain)
-agrees-alone book tickets plain empty whole sound words = record {
-  fit = λ team. inl (phase-none (tickets team .phase) (empty team));
-  held = λ team word value holds. absurd (true≢false (sym (holds .stands) ∙ empty team));
-  free = λ word inside small. words word (below word inside);
-  owned = λ word inside large. absurd (omega (arith, large, words word (below word inside), words-are-values FourWords plain sound word (below word inside)));
-}
+agrees-alone book tickets plain empty whole sound words =
+    holds-at-start book tickets (wordOf plain) (λ team. phase-none (tickets team .phase) (empty team))
+    (λ word inside. words word (below word inside)) (λ word inside. words-are-values FourWords plain sound word (below word inside))
   where
     below : (word : ℕ) → word < length book → word < wordsInBook
     below word inside = omega (arith, inside, whole)
