@@ -6,45 +6,45 @@ use mathlib.Core.Option.{Option, none, some}
 use mathlib.Core.Logic.{inl, inr}
 use Prim.Native.Nat.{ℕ, zero, suc, _<_}
 use native.Mathlib.Omega.{arith}
-use lib.ListN.{length, length-replicate}
+use lib.ListN.{length, length-replicate, getD-replicate}
 use borrow.Author.Tests.{eq-eqb}
 use Rattle.words.specs.Tests.{allHold, Every}
 use Rattle.words.specs.Words.{Words, wordsInBook, readOf, markOf}
 use Rattle.legs.proofs.Ranks.{fixed-ranks-are-permutation}
 use Rattle.tickets.specs.declared.Phase.{Phase}
 use Rattle.tickets.specs.declared.Phase.the-variants.{NoTicket, Claiming, Putting, GivingBack, Viewing, Viewed}
-use Rattle.tickets.specs.Tickets.{Ticket, ticketOf, freshTickets, hasTicket}
+use Rattle.tickets.specs.Tickets.{Ticket, ticketOf, hasTicket, standsBelow}
 use Rattle.tickets.specs.Invariant.{Holds, FitSlot}
 use Rattle.tickets.proofs.Keeping.{standing-fit}
-use Rattle.tickets.proofs.Opening.{holds-at-start}
 use Rattle.tickets.proofs.Looking.{unheld-plain}
 use Rattle.tickets.proofs.WellMade.{fit-well-made}
 use Rattle.edits.specs.declared.Edit.{Edit}
 use Rattle.frames.specs.Numbers.{Bytes, areBytes}
-use Rattle.plain.specs.Plain.{Plain, freshPlain, wordOf}
+use Rattle.plain.specs.Plain.{Plain, freshPlain, wordOf, Sound}
 use Rattle.plain.proofs.EditLaws.{fresh-is-sound}
 use Rattle.calls.specs.Call.{badlyMade, doneOf, callOf}
 use Rattle.calls.specs.Shelves.{shelfOf, noneFilled, isFilled}
 use Rattle.calls.specs.Run.{Call, framed, loading, filling, comingBack, Admitted, Shared, fresh, heardOf, leftBy, answerHeard, runFrom, run}
-use Rattle.calls.specs.Order.{stale, Event, decided, looked, seen, filled, cameBack, wasFilled, Asked, anEdit, aView, Noted, Notes, noNotes, hearAnswer, notesFrom, notesOn, holds, holdsWord}
-use Rattle.calls.specs.Linearizable.{freshState, keptOr, deedOf, feed, playFrom, play, grantedOf, sinceBack, untilBack, FoundFits, DecidedAtMostOnce, StandingRight, heardOn, Demand3}
+use Rattle.calls.specs.Order.{stale, Event, decided, looked, seen, filled, cameBack, wasFilled, Asked, anEdit, aView, Noted, Notes, firstNotes, noNotes, hearAnswer, notesFrom, notesOn, holdsFrom, holdsWord}
+use Rattle.calls.specs.Linearizable.{PlainState, startOf, freshState, keptOr, deedOf, feed, playFrom, plainFrom, grantedOf, sinceBack, untilBack, FoundFits, DecidedAtMostOnce, StandingRight, heardOn, Demand3}
 use Rattle.calls.specs.Demand1.{TableFits}
+use Rattle.calls.specs.Demand3From.{Begins, Demand3From}
 use Rattle.calls.specs.Linearizable.{StandsAsNoted}
 use Rattle.calls.proofs.Tables.{tables-stay}
 use Rattle.calls.proofs.Hearing.{answers-heard}
 use Rattle.calls.proofs.Orders.{IsKept, RightFrom, right-at, play-last, play-finished, play-both, unfilled, filled-finished}
 use Rattle.calls.proofs.Ordered.{played, Ordered, finished-ordered}
-use Rattle.calls.proofs.Freshness.{fresh-words, fresh-slots, fresh-table}
+use Rattle.calls.proofs.Freshness.{fresh-words, fresh-table}
 use Rattle.calls.proofs.Tied.{HeardIn, KnownAs, Tied, known-stands, holds-heard, heard-holds}
 use Rattle.calls.proofs.Turns.{ShelfTied, Good}
 use Rattle.calls.proofs.Kept.{call-kept}
-use Rattle.calls.proofs.Shelving.{filling-kept, coming-back-kept}
+use Rattle.calls.proofs.Shelving.{phase-none, no-ticket, agrees-alone, filling-kept, coming-back-kept}
 use Rattle.calls.proofs.Loading.{loading-kept}
 
 -- At the start.
-fresh-ordered : Ordered []
+begins-ordered : (plain : Plain) → Sound plain → Ordered (startOf plain) []
 unfolding playFrom grantedOf sinceBack untilBack
-fresh-ordered = record { sound = fresh-is-sound; right = tt; counts = refl }
+begins-ordered plain sound = record { sound = sound; right = tt; counts = refl }
 
 -- No shelf is filled.
 fresh-flags : (shelf : ℕ) → isFilled noneFilled shelf ≡ false
@@ -53,46 +53,68 @@ fresh-flags (suc zero) = refl
 fresh-flags (suc (suc zero)) = refl
 fresh-flags (suc (suc (suc shelf))) = refl
 
-pub fresh-good : (store : Words) → Good (fresh store) noNotes
+pub begins-good : (shared : Shared) (plain : Plain) → Begins shared plain → Good (startOf plain) shared (firstNotes (shared .ranks))
 unfolding playFrom wasFilled
-fresh-good store = record {
-  whole = length-replicate {A = ℕ} wordsInBook 0;
-  agree = holds-at-start wordsInBook (ticketOf freshTickets) (wordOf freshPlain) fresh-slots (λ word below. fresh-words word);
-  tied = fresh-slots;
-  ranked = fixed-ranks-are-permutation;
+begins-good shared plain begins = record {
+  whole = begins .whole;
+  agree = agrees-alone (shared .book) (ticketOf (shared .tickets)) plain empty (begins .whole) (begins .sound) (begins .words);
+  tied = λ team. phase-none (ticketOf (shared .tickets) team .phase) (empty team);
+  ranked = begins .ranked;
   heard-ranks = refl;
   under = λ team. tt;
-  ordered = fresh-ordered;
-  shelved = record { flags = refl; tied = fresh-flags; heard = fresh-flags };
+  ordered = begins-ordered plain (begins .sound);
+  shelved = record { flags = ap length (begins .none-filled); tied = flags; heard = flags };
   places = λ team. tt;
   ends = tt;
   tries = tt;
   in-turn = refl;
 }
+  where
+    empty : (team : ℕ) → hasTicket (ticketOf (shared .tickets) team .phase) ≡ false
+    empty = no-ticket (shared .tickets) (begins .fits .teams) (begins .none-stands)
+
+    flags : (shelf : ℕ) → isFilled (shared .filled) shelf ≡ false
+    flags shelf = ap (λ filled. isFilled filled shelf) (begins .none-filled) ∙ fresh-flags shelf
+
+-- A fresh book is a start.
+pub fresh-begins : (store : Words) → Begins (fresh store) freshPlain
+unfolding standsBelow
+fresh-begins store = record {
+  whole = length-replicate {A = ℕ} wordsInBook 0;
+  fits = fresh-table;
+  none-stands = refl;
+  sound = fresh-is-sound;
+  words = λ word inside. getD-replicate {A = ℕ} wordsInBook word 0 0 inside ∙ sym (fresh-words word);
+  ranked = fixed-ranks-are-permutation;
+  none-filled = refl;
+}
+
+pub fresh-good : (store : Words) → Good freshState (fresh store) noNotes
+fresh-good store = begins-good (fresh store) freshPlain (fresh-begins store)
 
 -- What a team holds, by its ticket and by what was heard.
-module _ (shared : Shared) (n : Notes) (good : Good shared n) (team word : ℕ) where
+module _ {start : PlainState} (shared : Shared) (n : Notes) (good : Good start shared n) (team word : ℕ) where
   pub to-heard : (value : ℕ) → Holds (ticketOf (shared .tickets) team) word value → holdsWord (n .tickets team) word ≡ true
   to-heard value holds = by-note (n .tickets team) (good .tied team)
     where
-      by-note : (note : Option Noted) → Tied (ticketOf (shared .tickets) team) note → holdsWord note word ≡ true
+      by-note : (note : Option Noted) → Tied start (ticketOf (shared .tickets) team) note → holdsWord note word ≡ true
       by-note none absent = absurd (false≢true (sym (ap hasTicket absent) ∙ holds .stands))
       by-note (some noted) known = holds-heard known (standing-fit (length (shared .book)) (ticketOf (shared .tickets) team) (good .agree .fit team) (holds .stands)) word value holds
 
   from-heard : holdsWord (n .tickets team) word ≡ true → (value : ℕ) × Holds (ticketOf (shared .tickets) team) word value
   from-heard held = by-note (n .tickets team) (good .tied team) held
     where
-      by-note : (note : Option Noted) → Tied (ticketOf (shared .tickets) team) note → holdsWord note word ≡ true → (value : ℕ) × Holds (ticketOf (shared .tickets) team) word value
+      by-note : (note : Option Noted) → Tied start (ticketOf (shared .tickets) team) note → holdsWord note word ≡ true → (value : ℕ) × Holds (ticketOf (shared .tickets) team) word value
       by-note none absent held = absurd (false≢true held)
       by-note (some noted) known held = heard-holds known (standing-fit (length (shared .book)) (ticketOf (shared .tickets) team) (good .agree .fit team) (known-stands known)) word held
 
   held-mark : holdsWord (n .tickets team) word ≡ true → readOf (shared .book) word ≡ markOf team
   held-mark held = let (value, holds) = from-heard held in good .agree .held team word value holds .marked
 
-unheld-agrees : (shared : Shared) (n : Notes) → Good shared n → (word : ℕ) → word < wordsInBook
-    → ((team : ℕ) → holdsWord (n .tickets team) word ≡ true → ⊥) → readOf (shared .book) word ≡ wordOf (play (n .order)) word
-unheld-agrees shared n good word inside unheld =
-    unheld-plain (shared .book) (ticketOf (shared .tickets)) (wordOf (play (n .order))) word (good .agree) (omega (arith, good .whole))
+unheld-agrees : {start : PlainState} (shared : Shared) (n : Notes) → Good start shared n → (word : ℕ) → word < wordsInBook
+    → ((team : ℕ) → holdsWord (n .tickets team) word ≡ true → ⊥) → readOf (shared .book) word ≡ wordOf (plainFrom start (n .order)) word
+unheld-agrees {start} shared n good word inside unheld =
+    unheld-plain (shared .book) (ticketOf (shared .tickets)) (wordOf (plainFrom start (n .order))) word (good .agree) (omega (arith, good .whole))
     (λ holder. unheld (holder .team) (to-heard shared n good (holder .team) word (holder .value) (holder .holds)))
 
 -- A slot of the invariant is not badly made.
@@ -105,42 +127,42 @@ well-made ticket slot = if-stands (hasTicket (ticket .phase)) refl
     if-stands false e = rw e refl
 
 -- An edit's ticket is undecided while claiming, and decided once after that; a view never is.
-phase-decided : (edit : Edit) (phase : Phase) (ticket : Ticket) (noted : Noted) → HeardIn edit phase ticket noted → DecidedAtMostOnce (anEdit edit) noted
-phase-decided edit NoTicket ticket noted heard = absurd heard
-phase-decided edit Claiming ticket noted heard = inl (heard .undecided)
-phase-decided edit Putting ticket noted heard =
+phase-decided : (start : PlainState) (edit : Edit) (phase : Phase) (ticket : Ticket) (noted : Noted) → HeardIn start edit phase ticket noted → DecidedAtMostOnce start (anEdit edit) noted
+phase-decided start edit NoTicket ticket noted heard = absurd heard
+phase-decided start edit Claiming ticket noted heard = inl (heard .undecided)
+phase-decided start edit Putting ticket noted heard =
     let decided = heard .decided in
     let decision = decided .decision in
-    inr (decision, decided .once, decided .right, subst (λ verdict. FoundFits edit noted decision verdict (noted .found)) (sym (decided .is)) (heard .not-found))
-phase-decided edit GivingBack ticket noted heard =
+    inr (decision, decided .once, decided .right, subst (λ verdict. FoundFits start edit noted decision verdict (noted .found)) (sym (decided .is)) (heard .not-found))
+phase-decided start edit GivingBack ticket noted heard =
     let decided = heard .decided in
     let decision = decided .decision in
-    let fits = subst (FoundFits edit noted decision stale) (sym (heard .found)) (heard .differed) in
-    inr (decision, decided .once, decided .right, subst (λ verdict. FoundFits edit noted decision verdict (noted .found)) (sym (decided .is)) fits)
-phase-decided edit Viewing ticket noted heard = absurd heard
-phase-decided edit Viewed ticket noted heard = absurd heard
+    let fits = subst (FoundFits start edit noted decision stale) (sym (heard .found)) (heard .differed) in
+    inr (decision, decided .once, decided .right, subst (λ verdict. FoundFits start edit noted decision verdict (noted .found)) (sym (decided .is)) fits)
+phase-decided start edit Viewing ticket noted heard = absurd heard
+phase-decided start edit Viewed ticket noted heard = absurd heard
 
-decided-as : (asked : Asked) (ticket : Ticket) (noted : Noted) → KnownAs asked ticket noted → DecidedAtMostOnce asked noted
-decided-as (anEdit edit) ticket noted known = phase-decided edit (ticket .phase) ticket noted (known .phase)
-decided-as (aView words) ticket noted known = known .undecided
+decided-as : (start : PlainState) (asked : Asked) (ticket : Ticket) (noted : Noted) → KnownAs start asked ticket noted → DecidedAtMostOnce start asked noted
+decided-as start (anEdit edit) ticket noted known = phase-decided start edit (ticket .phase) ticket noted (known .phase)
+decided-as start (aView words) ticket noted known = known .undecided
 
-standing-right : (ticket : Ticket) (note : Option Noted) → Tied ticket note → StandingRight note
-standing-right ticket none absent = tt
-standing-right ticket (some noted) known = decided-as (noted .asked) ticket noted (known .rest)
+standing-right : (start : PlainState) (ticket : Ticket) (note : Option Noted) → Tied start ticket note → StandingRight start note
+standing-right start ticket none absent = tt
+standing-right start ticket (some noted) known = decided-as start (noted .asked) ticket noted (known .rest)
 
-stands-as-noted : (ticket : Ticket) (note : Option Noted) → Tied ticket note → StandsAsNoted (hasTicket (ticket .phase)) note
-stands-as-noted ticket none absent = ap hasTicket absent
-stands-as-noted ticket (some noted) known = known-stands known
+stands-as-noted : (start : PlainState) (ticket : Ticket) (note : Option Noted) → Tied start ticket note → StandsAsNoted (hasTicket (ticket .phase)) note
+stands-as-noted start ticket none absent = ap hasTicket absent
+stands-as-noted start ticket (some noted) known = known-stands known
 
 -- The book and tickets that a call leaves are those of what it does.
-left-kept : (shared : Shared) (n : Notes) → TableFits (shared .tickets) → Good shared n → (frame out : Bytes) → areBytes frame ≡ true
-    → Good (leftBy shared (framed frame out)) (hearAnswer n frame (some (doneOf (shared .book) (shared .tickets) (shared .ranks) frame out .answer)))
+left-kept : {start : PlainState} (shared : Shared) (n : Notes) → TableFits (shared .tickets) → Good start shared n → (frame out : Bytes) → areBytes frame ≡ true
+    → Good start (leftBy shared (framed frame out)) (hearAnswer n frame (some (doneOf (shared .book) (shared .tickets) (shared .ranks) frame out .answer)))
 unfolding callOf
 left-kept shared n table good frame out bytes = call-kept shared n table good frame out bytes
 
 -- Every call of a list keeps the invariant.
-pub calls-keep : (calls : List Call) → Every Admitted calls → (shared : Shared) (n : Notes) → TableFits (shared .tickets) → Good shared n
-    → Good (runFrom shared calls .end) (notesFrom n (runFrom shared calls .heard))
+pub calls-keep : {start : PlainState} (calls : List Call) → Every Admitted calls → (shared : Shared) (n : Notes) → TableFits (shared .tickets) → Good start shared n
+    → Good start (runFrom shared calls .end) (notesFrom n (runFrom shared calls .heard))
 unfolding runFrom notesFrom
 calls-keep [] bytes shared n table good = good
 calls-keep (loading ranks ∷ calls) bytes shared n table good =
@@ -149,11 +171,11 @@ calls-keep (filling shelf lent ∷ calls) bytes shared n table good =
     calls-keep calls (bytes .1) (leftBy shared (filling shelf lent)) _ table (filling-kept shared n table good shelf lent (bytes .0))
 calls-keep (comingBack shelf lent ∷ calls) bytes shared n table good =
     calls-keep calls (bytes .1) (leftBy shared (comingBack shelf lent)) _ table (coming-back-kept shared n table good shelf lent (bytes .0))
-calls-keep (framed frame out ∷ calls) bytes shared n table good =
+calls-keep {start} (framed frame out ∷ calls) bytes shared n table good =
     calls-keep calls (bytes .1) (leftBy shared (framed frame out)) _ (tables-stay (shared .book) (shared .tickets) (shared .ranks) frame out table) one-kept
   where
-    one-kept : Good (leftBy shared (framed frame out)) (hearAnswer n frame (answerHeard (heardOf shared (framed frame out))))
-    one-kept = subst (λ answer. Good (leftBy shared (framed frame out)) (hearAnswer n frame answer)) (sym (answers-heard shared frame out table))
+    one-kept : Good start (leftBy shared (framed frame out)) (hearAnswer n frame (answerHeard (heardOf shared (framed frame out))))
+    one-kept = subst (λ answer. Good start (leftBy shared (framed frame out)) (hearAnswer n frame answer)) (sym (answers-heard shared frame out table))
         (left-kept shared n table good frame out (bytes .0))
 
 -- The table stays one as the code has it.
@@ -168,59 +190,64 @@ tables-run (framed frame out ∷ calls) shared table = tables-run calls (leftBy 
 pub run-table : (store : Words) (calls : List Call) → TableFits (run store calls .end .tickets)
 run-table store calls = tables-run calls (fresh store) fresh-table
 
-pub run-good : (store : Words) (calls : List Call) → Every Admitted calls → Good (run store calls .end) (notesOn (heardOn store calls))
-run-good store calls bytes = calls-keep calls bytes (fresh store) noNotes fresh-table (fresh-good store)
+pub good-from : (shared : Shared) (plain : Plain) → Begins shared plain → (calls : List Call) → Every Admitted calls
+    → Good (startOf plain) (runFrom shared calls .end) (notesFrom (firstNotes (shared .ranks)) (runFrom shared calls .heard))
+good-from shared plain begins calls bytes = calls-keep calls bytes shared (firstNotes (shared .ranks)) (begins .fits) (begins-good shared plain begins)
+
+pub run-good : (store : Words) (calls : List Call) → Every Admitted calls → Good freshState (run store calls .end) (notesOn (heardOn store calls))
+run-good store calls bytes = good-from (fresh store) freshPlain (fresh-begins store) calls bytes
 
 pub append-both : (xs ys zs : List Event) → (xs ++ ys) ++ zs ≡ xs ++ (ys ++ zs)
 append-both [] ys zs = refl
 append-both (x ∷ xs) ys zs = ap (λ l. x ∷ l) (append-both xs ys zs)
 
 -- A shelf that is come back to was filled,
-was-filled : (events : List Event) (shelf : ℕ) → IsKept (playFrom freshState (map deedOf events) .shelves shelf) → wasFilled shelf events ≡ true
-was-filled events shelf kept = by (wasFilled shelf events) refl
+was-filled : (plain : Plain) (events : List Event) (shelf : ℕ) → IsKept (playFrom (startOf plain) (map deedOf events) .shelves shelf) → wasFilled shelf events ≡ true
+was-filled plain events shelf kept = by (wasFilled shelf events) refl
   where
     by : (b : Bool) → wasFilled shelf events ≡ b → wasFilled shelf events ≡ true
     by true is = is
-    by false is = absurd (subst IsKept (unfilled freshState events shelf is) kept)
+    by false is = absurd (subst IsKept (unfilled (startOf plain) events shelf is) kept)
 
 -- and keeps the plain book of its last filling.
-kept-since : (before after : List Event) (shelf : ℕ) → wasFilled shelf after ≡ false → playFrom freshState (map deedOf (before ++ (filled shelf ∷ after))) .shelves shelf ≡ some (play before)
+kept-since : (start : PlainState) (before after : List Event) (shelf : ℕ) → wasFilled shelf after ≡ false → playFrom start (map deedOf (before ++ (filled shelf ∷ after))) .shelves shelf ≡ some (plainFrom start before)
 unfolding playFrom
-kept-since before after shelf none-filled =
-    ap (λ state. state .shelves shelf) (play-both freshState before (filled shelf ∷ after))
-    ∙ unfilled (feed (playFrom freshState (map deedOf before)) (deedOf (filled shelf))) after shelf none-filled
-    ∙ ap (λ b. cond b (some (play before)) (playFrom freshState (map deedOf before) .shelves shelf)) (eq-eqb shelf shelf refl)
+kept-since start before after shelf none-filled =
+    ap (λ state. state .shelves shelf) (play-both start before (filled shelf ∷ after))
+    ∙ unfilled (feed (playFrom start (map deedOf before)) (deedOf (filled shelf))) after shelf none-filled
+    ∙ ap (λ b. cond b (some (plainFrom start before)) (playFrom start (map deedOf before) .shelves shelf)) (eq-eqb shelf shelf refl)
 
-returned : (before between : List Event) (shelf : ℕ) → wasFilled shelf between ≡ false → play (before ++ (filled shelf ∷ (between ++ (cameBack shelf ∷ [])))) ≡ play before
-returned before between shelf none-filled =
-    ap (λ l. play l) (sym (append-both before (filled shelf ∷ between) (cameBack shelf ∷ [])))
-    ∙ ap (λ state. state .book) (play-last freshState (before ++ (filled shelf ∷ between)) (cameBack shelf))
-    ∙ ap (keptOr (play (before ++ (filled shelf ∷ between)))) (kept-since before between shelf none-filled)
+returned : (start : PlainState) (before between : List Event) (shelf : ℕ) → wasFilled shelf between ≡ false → plainFrom start (before ++ (filled shelf ∷ (between ++ (cameBack shelf ∷ [])))) ≡ plainFrom start before
+returned start before between shelf none-filled =
+    ap (λ l. plainFrom start l) (sym (append-both before (filled shelf ∷ between) (cameBack shelf ∷ [])))
+    ∙ ap (λ state. state .book) (play-last start (before ++ (filled shelf ∷ between)) (cameBack shelf))
+    ∙ ap (keptOr (plainFrom start (before ++ (filled shelf ∷ between)))) (kept-since start before between shelf none-filled)
 
 shelf-agrees : (store : Words) (flag : Bool) (shelf : ℕ) (kept : Option Plain) (plain : Plain) → kept ≡ some plain → ShelfTied store flag shelf kept
     → (word : ℕ) → word < wordsInBook → readOf (shelfOf store shelf) word ≡ wordOf plain word
 shelf-agrees store flag shelf kept plain is tied word inside = subst (ShelfTied store flag shelf) is tied .1 .words word inside
 
-pub demand3 : Demand3
-unfolding holds
-demand3 store calls bytes =
-    let good = run-good store calls bytes in
-    let shared = run store calls .end in
-    let n = notesOn (heardOn store calls) in
+pub demand3-from : Demand3From
+unfolding holdsFrom
+demand3-from begin plain begins calls bytes =
+    let good = good-from begin plain begins calls bytes in
+    let start = startOf plain in
+    let shared = runFrom begin calls .end in
+    let n = notesFrom (firstNotes (begin .ranks)) (runFrom begin calls .heard) in
     -- the order without the places only reserved
     let ordered = finished-ordered (n .order) (good .ordered) in
     record {
-      granted-succeed = λ before after verdict edit is. right-at freshState before after (decided verdict edit) (subst (RightFrom freshState) is (ordered .right));
-      looks-agree = λ before after word value is. right-at freshState before after (looked word value) (subst (RightFrom freshState) is (ordered .right));
-      views-agree = λ before after words values is. right-at freshState before after (seen words values) (subst (RightFrom freshState) is (ordered .right));
-      words-agree = λ word inside unheld. unheld-agrees shared n good word inside unheld ∙ ap (λ state. wordOf (state .book) word) (sym (play-finished freshState (n .order)));
+      granted-succeed = λ before after verdict edit is. right-at start before after (decided verdict edit) (subst (RightFrom start) is (ordered .right));
+      looks-agree = λ before after word value is. right-at start before after (looked word value) (subst (RightFrom start) is (ordered .right));
+      views-agree = λ before after words values is. right-at start before after (seen words values) (subst (RightFrom start) is (ordered .right));
+      words-agree = λ word inside unheld. unheld-agrees shared n good word inside unheld ∙ ap (λ state. wordOf (state .book) word) (sym (play-finished start (n .order)));
       last-answers = good .ends;
-      decided-once = λ team. standing-right (ticketOf (shared .tickets) team) (n .tickets team) (good .tied team);
-      comes-back = λ before between after shelf is none-filled. returned before between shelf none-filled;
-      backs-filled = λ before after shelf is. was-filled before shelf (right-at freshState before after (cameBack shelf) (subst (RightFrom freshState) is (ordered .right)));
+      decided-once = λ team. standing-right start (ticketOf (shared .tickets) team) (n .tickets team) (good .tied team);
+      comes-back = λ before between after shelf is none-filled. returned start before between shelf none-filled;
+      backs-filled = λ before after shelf is. was-filled plain before shelf (right-at start before after (cameBack shelf) (subst (RightFrom start) is (ordered .right)));
       shelves-agree = λ before after shelf word is none-filled inside.
-          shelf-agrees (shared .store) (isFilled (shared .filled) shelf) shelf (played (n .order) .shelves shelf) (play before)
-          (ap (λ state. state .shelves shelf) (sym (play-finished freshState (n .order))) ∙ ap (λ l. playFrom freshState (map deedOf l) .shelves shelf) is ∙ kept-since before after shelf none-filled)
+          shelf-agrees (shared .store) (isFilled (shared .filled) shelf) shelf (played start (n .order) .shelves shelf) (plainFrom start before)
+          (ap (λ state. state .shelves shelf) (sym (play-finished start (n .order))) ∙ ap (λ l. playFrom start (map deedOf l) .shelves shelf) is ∙ kept-since start before after shelf none-filled)
           (good .shelved .tied shelf) word inside;
       filled-heard = λ shelf. good .shelved .heard shelf ∙ sym (filled-finished shelf (n .order));
       counts-add-up = ordered .counts;
@@ -232,5 +259,8 @@ demand3 store calls bytes =
       stays-ranked = ap not (good .ranked);
       tries-add-up = good .tries;
       in-turn = good .in-turn;
-      noted-stand = λ team. stands-as-noted (ticketOf (shared .tickets) team) (n .tickets team) (good .tied team);
+      noted-stand = λ team. stands-as-noted start (ticketOf (shared .tickets) team) (n .tickets team) (good .tied team);
     }
+
+pub demand3 : Demand3
+demand3 store calls bytes = demand3-from (fresh store) freshPlain (fresh-begins store) calls bytes

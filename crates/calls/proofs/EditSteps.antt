@@ -18,17 +18,17 @@ use Rattle.edits.specs.declared.Edit.{Edit}
 use Rattle.plain.specs.Plain.{wordOf}
 use Rattle.plain.specs.Editing.{succeeds, perform}
 use Rattle.calls.specs.Order.{granted, stale, decided, anEdit, Noted, Last, wasGranted, wasStale, Notes, withClaimed, withReleased, withWait, withStep, withFound, withDecision, endedBy, hearStale}
-use Rattle.calls.specs.Linearizable.{play, Differed, Repeats}
+use Rattle.calls.specs.Linearizable.{PlainState, plainFrom, Differed, Repeats}
 use Rattle.calls.proofs.Ordered.{order-stays, order-grows, stored-law, play-granted, verdict-granted, granted-ordered, play-stale, verdict-stale, stale-ordered}
 use Rattle.calls.proofs.Tied.{UpTo, up-to-more, HeardClaiming, HeardPutting, HeardGivingBack, HeardIn, Known, known-count, known-next}
 use Rattle.calls.proofs.Turns.{Good, asking, Turn, Leaving, Kept, still, left-as, fit, spent, none-released, my-place, grown, stays-as, ends-as, advances, heard-claim, heard-last}
 
 -- A step of a ticket of which this was heard.
-module _ (edit : Edit) (heard : Noted) (turn : Turn (asking (anEdit edit) (heard .ranks) heard)) where
+module _ {start : PlainState} (edit : Edit) (heard : Noted) (turn : Turn start (asking (anEdit edit) (heard .ranks) heard)) where
   abbrev n : Notes
   n = turn .n
 
-  abbrev good : Good (turn .shared) n
+  abbrev good : Good start (turn .shared) n
   good = turn .good
 
   abbrev team : ℕ
@@ -38,9 +38,9 @@ module _ (edit : Edit) (heard : Noted) (turn : Turn (asking (anEdit edit) (heard
   ticket = ticketOf (turn .shared .tickets) team
 
   abbrev plain : ℕ → ℕ
-  plain = wordOf (play (n .order))
+  plain = wordOf (plainFrom start (n .order))
 
-  abbrev known : Known ticket (asking (anEdit edit) (heard .ranks) heard)
+  abbrev known : Known start ticket (asking (anEdit edit) (heard .ranks) heard)
   known = turn .known
 
   abbrev edited : Noted
@@ -48,8 +48,8 @@ module _ (edit : Edit) (heard : Noted) (turn : Turn (asking (anEdit edit) (heard
 
   -- It goes on with the same targets.
   edit-goes : {phase : Phase} {claimed done : ℕ} (after : Noted) → after .steps ≡ edited .steps
-      → UpTo claimed (after .claimed) → UpTo done (after .released) → HeardIn edit phase (advanced ticket phase claimed done) (asking (anEdit edit) (heard .ranks) after)
-      → Known (advanced ticket phase claimed done) (asking (anEdit edit) (heard .ranks) after)
+      → UpTo claimed (after .claimed) → UpTo done (after .released) → HeardIn start edit phase (advanced ticket phase claimed done) (asking (anEdit edit) (heard .ranks) after)
+      → Known start (advanced ticket phase claimed done) (asking (anEdit edit) (heard .ranks) after)
   edit-goes {phase} {claimed} {done} after one-more taken let-go phase-heard = advances turn ticket refl refl after one-more taken let-go record {
     fine = known .rest .fine;
     targets = targets-advanced ticket phase claimed done ∙ known .rest .targets;
@@ -57,8 +57,8 @@ module _ (edit : Edit) (heard : Noted) (turn : Turn (asking (anEdit edit) (heard
   }
 
   -- What was heard in this phase.
-  heard-in : (phase : Phase) → ticket .phase ≡ phase → HeardIn edit phase ticket (asking (anEdit edit) (heard .ranks) heard)
-  heard-in phase e = subst (λ phase. HeardIn edit phase ticket (asking (anEdit edit) (heard .ranks) heard)) e (known .rest .phase)
+  heard-in : (phase : Phase) → ticket .phase ≡ phase → HeardIn start edit phase ticket (asking (anEdit edit) (heard .ranks) heard)
+  heard-in phase e = subst (λ phase. HeardIn start edit phase ticket (asking (anEdit edit) (heard .ranks) heard)) e (known .rest .phase)
 
   module _ (claiming : ticket .phase ≡ Claiming) where
     heard-claiming : HeardClaiming ticket (asking (anEdit edit) (heard .ranks) heard)
@@ -66,13 +66,13 @@ module _ (edit : Edit) (heard : Noted) (turn : Turn (asking (anEdit edit) (heard
 
     -- Where the next word differs, the edit does not succeed.
     module _ (differs : plain (targetAt ticket (ticket .claimed) .word) ≡ targetAt ticket (ticket .claimed) .quoted → ⊥) where
-      pub fails : succeeds (play (n .order)) edit ≡ true → ⊥
+      pub fails : succeeds (plainFrom start (n .order)) edit ≡ true → ⊥
       fails succeeded =
           differs (match-at ticket plain
           (subst (λ targets. AllMatch targets plain) (sym (known .rest .targets)) (stored-law (n .order) (good .ordered) edit (known .rest .fine) (heard .ranks) .quoted succeeded))
           (ticket .claimed) (claiming-counts ticket (fit turn) claiming))
 
-      pub differed : Differed edit edited record { verdict = stale; before = n .order } (targetAt ticket (ticket .claimed) .word)
+      pub differed : Differed start edit edited record { verdict = stale; before = n .order } (targetAt ticket (ticket .claimed) .word)
       differed = let next = known-next known (known .rest) (claiming-counts ticket (fit turn) claiming) in record {
         named = ap (λ one. one .word) next;
         differs = λ same. differs (same ∙ sym (ap (λ one. one .quoted) next));
@@ -105,7 +105,7 @@ module _ (edit : Edit) (heard : Noted) (turn : Turn (asking (anEdit edit) (heard
     step-claims-last last matches left =
         let law = stored-law (n .order) (good .ordered) edit (known .rest .fine) (heard .ranks) in
         let succeeded = law .success (subst (λ targets. AllMatch targets plain) (known .rest .targets) matches) in
-        let after = wordOf (perform (play (n .order)) edit) in
+        let after = wordOf (perform (plainFrom start (n .order)) edit) in
         let decided-now : Noted = withDecision granted (n .order) (withClaimed (ticket .claimed + 1) edited) in
         left-as turn (n .order ++ (decided granted edit ∷ [])) (some decided-now) (n .ended)
         (subst (λ book. Leaving turn (wordOf book) (advanced ticket Putting (ticket .claimed + 1) 0) (Claimed (ticket .claimed + 1)))
@@ -176,7 +176,7 @@ module _ (edit : Edit) (heard : Noted) (turn : Turn (asking (anEdit edit) (heard
             refl,
             record {
               named = sym same-word ∙ names .named;
-              differs = λ same. names .differs (ap (wordOf (play (n .order))) same-word ∙ same);
+              differs = λ same. names .differs (ap (wordOf (plainFrom start (n .order))) same-word ∙ same);
             },
             subst (λ found. Repeats found word (heard .claimed)) (sym (heard-claiming .undecided .1)) (known .claimed .many ∙ none-claimed),
           );
@@ -184,7 +184,7 @@ module _ (edit : Edit) (heard : Noted) (turn : Turn (asking (anEdit edit) (heard
         (spent turn, tt)
 
   module _ (putting : ticket .phase ≡ Putting) where
-    heard-putting : HeardPutting edit ticket (asking (anEdit edit) (heard .ranks) heard)
+    heard-putting : HeardPutting start edit ticket (asking (anEdit edit) (heard .ranks) heard)
     heard-putting = heard-in Putting putting
 
     step-puts : Leaving turn plain (advanced ticket Putting (ticket .claimed) (ticket .done + 1)) (Put (ticket .done + 1))
@@ -215,7 +215,7 @@ module _ (edit : Edit) (heard : Noted) (turn : Turn (asking (anEdit edit) (heard
         (spent turn, omega (arith, heard-putting .swapped))
 
   module _ (giving : ticket .phase ≡ GivingBack) where
-    heard-giving : HeardGivingBack edit ticket (asking (anEdit edit) (heard .ranks) heard)
+    heard-giving : HeardGivingBack start edit ticket (asking (anEdit edit) (heard .ranks) heard)
     heard-giving = heard-in GivingBack giving
 
     step-returns : Leaving turn plain (advanced ticket GivingBack (ticket .claimed) (ticket .done + 1)) (Returned (ticket .done + 1))

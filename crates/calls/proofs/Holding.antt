@@ -23,8 +23,8 @@ use Rattle.frames.specs.Requests.{requestIn}
 use Rattle.plain.specs.Plain.{wordOf}
 use Rattle.calls.specs.Call.{refusalOf, requestDone, refusedOr, doneOf}
 use Rattle.calls.specs.Run.{Shared, run}
-use Rattle.calls.specs.Order.{Notes, holds, holdsWord, notesOn}
-use Rattle.calls.specs.Linearizable.{play, heardOn}
+use Rattle.calls.specs.Order.{Notes, holdsFrom, holdsWord, notesOn}
+use Rattle.calls.specs.Linearizable.{PlainState, plainFrom, heardOn}
 use Rattle.calls.specs.Holder.{WaitingNamesTheHolder}
 use Rattle.calls.specs.Demand1.{TableFits}
 use Rattle.calls.proofs.Tables.{standing-inside}
@@ -33,7 +33,7 @@ use Rattle.calls.proofs.Passing.{Passes, passes}
 use Rattle.calls.proofs.Turns.{Good}
 use Rattle.calls.proofs.Demand3.{to-heard, run-good, run-table}
 
-module _ (shared : Shared) (n : Notes) (table : TableFits (shared .tickets)) (good : Good shared n) (waiter word team : ℕ) where
+module _ {start : PlainState} (shared : Shared) (n : Notes) (table : TableFits (shared .tickets)) (good : Good start shared n) (waiter word team : ℕ) where
   -- What is to be shown.
   abbrev Names : Type 0
   Names = (holdsWord (n .tickets team) word ≡ true) × (team < teamCount) × (team ≡ waiter → ⊥)
@@ -81,7 +81,7 @@ module _ (shared : Shared) (n : Notes) (table : TableFits (shared .tickets)) (go
 
   module _ (stands : hasTicket (ticket .phase) ≡ true) (answered : stepOf (shared .book) ticket waiter .0 .answer ≡ Waiting word team) where
     abbrev plain : ℕ → ℕ
-    plain = wordOf (play (n .order))
+    plain = wordOf (plainFrom start (n .order))
 
     fit : FitTicket (length (shared .book)) ticket
     fit = standing-fit (length (shared .book)) ticket (good .agree .fit waiter) stands
@@ -125,7 +125,7 @@ module _ (shared : Shared) (n : Notes) (table : TableFits (shared .tickets)) (go
           step-names (passed .1) cc
 
 pub waiting-names-the-holder : WaitingNamesTheHolder
-unfolding holds
+unfolding holdsFrom
 waiting-names-the-holder store calls bytes frame out frame-bytes waiter word team asks heard =
     let shared = run store calls .end in
     let table = run-table store calls in

@@ -32,7 +32,7 @@ use Rattle.calls.specs.Call.{refusalOf, Done, requestDone, refusedOr, do
 use Rattle.calls.specs.Shelves.{isFilled}
 use Rattle.calls.specs.Run.{Shared, onward}
 use Rattle.calls.specs.Order.{looked, Asked, anEdit, aView, countAsked, Noted, Notes, noteOutOfTurn, atStanding, hearStanding, hearOpened, hearRequest}
-use Rattle.calls.specs.Linearizable.{freshState, play}
+use Rattle.calls.specs.Linearizable.{PlainState, plainFrom}
 use Rattle.calls.specs.Demand1.{TableFits}
 use Rattle.calls.proofs.Orders.{shelves-last, filled-last}
 use Rattle.calls.proofs.Ordered.{Fine, order-stays, place-stays, play-look, look-ordered}
@@ -58,7 +58,7 @@ module _ (ranks : Ranks) (edit : Edit) (fine : Fine edit) where
     room = λ view. absurd (false≢true view);
   }
 
-  opened-known : Known (openedTicket ranks edit) (atStanding ranks (anEdit edit))
+  opened-known : {start : PlainState} → Known start (openedTicket ranks edit) (atStanding ranks (anEdit edit))
   unfolding openedTicket
   opened-known = record {
     words = ap (map (λ one. one .word)) (opened-tickets-hold-targets ranks edit);
@@ -83,7 +83,7 @@ module _ (ranks : Ranks) (words : List ℕ) (fine : FineView words) where
         omega (arith, length-append quoted (replicate (mostTargets - length quoted) 0), length-map (viewTargets ranks words) (λ one. one .quoted));
   }
 
-  view-known : Known (openedView ranks words) (atStanding ranks (aView words))
+  view-known : {start : PlainState} → Known start (openedView ranks words) (atStanding ranks (aView words))
   unfolding openedView
   view-known = let opened = opened-views-hold-words ranks words fine in record {
     words = opened .targets;
@@ -94,46 +94,46 @@ module _ (ranks : Ranks) (words : List ℕ) (fine : FineView words) where
   }
 
 -- A step, of an edit's ticket or of a view.
-kept-by : (asked : Asked) (heard : Noted) (turn : Turn (asking asked (heard .ranks) heard))
-    → StepKept (turn .shared .book) (ticketOf (turn .shared .tickets)) (wordOf (play (turn .n .order))) (turn .team) (ticketOf (turn .shared .tickets) (turn .team)) → Kept turn
+kept-by : {start : PlainState} (asked : Asked) (heard : Noted) (turn : Turn start (asking asked (heard .ranks) heard))
+    → StepKept (turn .shared .book) (ticketOf (turn .shared .tickets)) (wordOf (plainFrom start (turn .n .order))) (turn .team) (ticketOf (turn .shared .tickets) (turn .team)) → Kept turn
 kept-by (anEdit edit) heard turn = edit-kept edit heard turn
 kept-by (aView words) heard turn = view-kept words heard turn
 
-module _ (shared : Shared) (n : Notes) (table : TableFits (shared .tickets)) (good : Good shared n) where
+module _ {start : PlainState} (shared : Shared) (n : Notes) (table : TableFits (shared .tickets)) (good : Good start shared n) where
   -- A ticket is opened for an edit or a view.
-  opens : (team : ℕ) → team < teamCount → (asked : Asked) (opened : Ticket) → OpenedTicket (length (shared .book)) opened → Known opened (atStanding (shared .ranks) asked) → hasTicket (ticketOf (shared .tickets) team .phase) ≡ false
-      → Good (onward shared (shared .book) (withTicket (shared .tickets) team opened)) (hearOpened n team asked (countAsked asked))
+  opens : (team : ℕ) → team < teamCount → (asked : Asked) (opened : Ticket) → OpenedTicket (length (shared .book)) opened → Known start opened (atStanding (shared .ranks) asked) → hasTicket (ticketOf (shared .tickets) team .phase) ≡ false
+      → Good start (onward shared (shared .book) (withTicket (shared .tickets) team opened)) (hearOpened n team asked (countAsked asked))
   opens team inside asked opened apt known empty = by-note (n .tickets team) refl (good .tied team)
     where
-      by-note : (note : Option Noted) → n .tickets team ≡ note → Tied (ticketOf (shared .tickets) team) note
-          → Good (onward shared (shared .book) (withTicket (shared .tickets) team opened)) (hearOpened n team asked (countAsked asked))
+      by-note : (note : Option Noted) → n .tickets team ≡ note → Tied start (ticketOf (shared .tickets) team) note
+          → Good start (onward shared (shared .book) (withTicket (shared .tickets) team opened)) (hearOpened n team asked (countAsked asked))
       by-note none is absent =
-          subst (Good (onward shared (shared .book) (withTicket (shared .tickets) team opened)))
+          subst (Good start (onward shared (shared .book) (withTicket (shared .tickets) team opened)))
           (sym (ap (λ b. cond b (hearStanding n team (n .tickets team) asked) (noteOutOfTurn n)) (eq-eqb (countAsked asked) (countAsked asked) refl) ∙ ap (λ note. hearStanding n team note asked) is))
           (goes-on shared n table good team inside (shared .book) opened (n .order) (some (atStanding (n .ranks) asked)) (n .ended) (good .whole)
-          (opening-keeps (shared .book) (ticketOf (shared .tickets)) (wordOf (play (n .order))) team opened (good .agree) empty apt)
-          (subst (λ ranks. Known opened (atStanding ranks asked)) (good .heard-ranks) known) refl (order-stays (good .ordered) tt) (good .ends) (good .tries))
+          (opening-keeps (shared .book) (ticketOf (shared .tickets)) (wordOf (plainFrom start (n .order))) team opened (good .agree) empty apt)
+          (subst (λ ranks. Known start opened (atStanding ranks asked)) (good .heard-ranks) known) refl (order-stays (good .ordered) tt) (good .ends) (good .tries))
       by-note (some noted) is standing = absurd (true≢false (sym (known-stands standing) ∙ empty))
 
   -- What a request does, and what is heard of it.
   abbrev pub After : Request → Done → Type 0
-  After request done = Good (onward shared (done .words) (done .tickets)) (hearRequest n request (done .answer))
+  After request done = Good start (onward shared (done .words) (done .tickets)) (hearRequest n request (done .answer))
 
   step-kept : (team : ℕ) → team < teamCount → hasTicket (ticketOf (shared .tickets) team .phase) ≡ true → After (Step team) (requestDone (shared .book) (shared .tickets) (shared .ranks) (Step team))
   unfolding requestDone
   step-kept team inside stands = by-note (n .tickets team) refl (good .tied team)
     where
-      by-note : (note : Option Noted) → n .tickets team ≡ note → Tied (ticketOf (shared .tickets) team) note → After (Step team) (requestDone (shared .book) (shared .tickets) (shared .ranks) (Step team))
+      by-note : (note : Option Noted) → n .tickets team ≡ note → Tied start (ticketOf (shared .tickets) team) note → After (Step team) (requestDone (shared .book) (shared .tickets) (shared .ranks) (Step team))
       by-note none is absent = absurd (false≢true (sym (ap hasTicket absent) ∙ stands))
       by-note (some noted) is known = kept-by (noted .asked) noted
           record { shared = shared; n = n; table = table; good = good; team = team; inside = inside; is = is; known = known }
-          (step-keeps (shared .book) (ticketOf (shared .tickets)) (wordOf (play (n .order))) team (good .agree) stands)
+          (step-keeps (shared .book) (ticketOf (shared .tickets)) (wordOf (plainFrom start (n .order))) team (good .agree) stands)
 
   look-kept : (word : ℕ) → word < wordsInBook → After (Look word) (requestDone (shared .book) (shared .tickets) (shared .ranks) (Look word))
   unfolding requestDone
-  look-kept word inside = by-answer (lookOf (shared .book) word) (looks-right (shared .book) (ticketOf (shared .tickets)) (wordOf (play (n .order))) word (good .agree) (omega (arith, good .whole)))
+  look-kept word inside = by-answer (lookOf (shared .book) word) (looks-right (shared .book) (ticketOf (shared .tickets)) (wordOf (plainFrom start (n .order))) word (good .agree) (omega (arith, good .whole)))
     where
-      by-answer : (answer : LookAnswer) → LookRight (ticketOf (shared .tickets)) (wordOf (play (n .order))) word answer → Good shared (hearRequest n (Look word) (Answer.Look answer))
+      by-answer : (answer : LookAnswer) → LookRight (ticketOf (shared .tickets)) (wordOf (plainFrom start (n .order))) word answer → Good start shared (hearRequest n (Look word) (Answer.Look answer))
       by-answer (Value value) agrees = record {
         whole = good .whole;
         agree = subst (λ book. Invariant (shared .book) (ticketOf (shared .tickets)) (wordOf book)) (sym (play-look (n .order) (good .ordered) word value)) (good .agree);
@@ -144,10 +144,10 @@ module _ (shared : Shared) (n : Notes) (table : TableFits (shared .tickets)) (go
         ordered = look-ordered (n .order) (good .ordered) word value agrees;
         shelved = record {
           flags = good .shelved .flags;
-          tied = λ shelf. subst (ShelfTied (shared .store) (isFilled (shared .filled) shelf) shelf) (sym (shelves-last freshState (n .order) (looked word value) refl shelf)) (good .shelved .tied shelf);
+          tied = λ shelf. subst (ShelfTied (shared .store) (isFilled (shared .filled) shelf) shelf) (sym (shelves-last start (n .order) (looked word value) refl shelf)) (good .shelved .tied shelf);
           heard = λ shelf. good .shelved .heard shelf ∙ sym (filled-last shelf (n .order) (looked word value) refl);
         };
-        places = λ team. place-stays team (n .order) (looked word value) (placeIn (n .tickets team)) (good .places team);
+        places = λ team. place-stays start team (n .order) (looked word value) (placeIn (n .tickets team)) (good .places team);
         ends = good .ends;
         tries = good .tries;
         in-turn = good .in-turn;
@@ -172,7 +172,7 @@ module _ (shared : Shared) (n : Notes) (table : TableFits (shared .tickets)) (go
 
   refused-kept : (request : Request) (refusal : Option ℕ) → (refusal ≡ none → Passes (shared .tickets) request) → After request (refusedOr refusal (shared .book) (shared .tickets) (shared .ranks) request)
   refused-kept request none passed = request-kept request (passed refl)
-  refused-kept request (some number) passed = subst (Good shared) (sym (refusal-heard request number)) good
+  refused-kept request (some number) passed = subst (Good start shared) (sym (refusal-heard request number)) good
 
   pub call-kept : (frame out : Bytes) → areBytes frame ≡ true → After (requestIn frame) (doneOf (shared .book) (shared .tickets) (shared .ranks) frame out)
   unfolding doneOf

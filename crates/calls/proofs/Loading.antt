@@ -21,6 +21,7 @@ use Rattle.calls.specs.Outcomes.{numberOf, ticketStands}
 use Rattle.calls.specs.Loading.{loadChecks, loadRefusal, loadedBy, loadOf, EachOccurs, AcceptedExactly}
 use Rattle.calls.specs.Run.{loading, Shared, underRanks, heardOf, leftBy}
 use Rattle.calls.specs.Order.{Notes, noteRanks, hearLoaded, hearCall}
+use Rattle.calls.specs.Linearizable.{PlainState}
 use Rattle.calls.specs.Demand1.{TableFits}
 use Rattle.calls.proofs.Refusing.{Given, first-given, none-applies}
 use Rattle.calls.proofs.Tied.{Under}
@@ -37,16 +38,16 @@ refused-number : (words : Words) (tickets : Tickets) (loaded : Ranks) → Given 
 unfolding loadRefusal loadChecks
 refused-number words tickets loaded = first-given (λ number. eqb number 0 ≡ false) (loadChecks words tickets loaded) (refl, (refl, (refl, tt)))
 
-module _ (shared : Shared) (n : Notes) (table : TableFits (shared .tickets)) (good : Good shared n) (loaded : Ranks) where
+module _ {start : PlainState} (shared : Shared) (n : Notes) (table : TableFits (shared .tickets)) (good : Good start shared n) (loaded : Ranks) where
   -- What a load leaves and what is heard of it, by its refusal.
   abbrev LoadedWell : Option ℕ → Type 0
   LoadedWell refusal =
       let result = loadedBy refusal (shared .ranks) loaded in
-      Good (underRanks shared (result .1)) (cond (eqb (numberOf (result .0)) 0) (hearLoaded n loaded) n)
+      Good start (underRanks shared (result .1)) (cond (eqb (numberOf (result .0)) 0) (hearLoaded n loaded) n)
 
   -- Accepted, it finds no ticket noted, so that none was opened under other ranks.
   loads : ranksWrong loaded ≡ false → ticketStands (shared .tickets) ≡ false → LoadedWell none
-  loads right none-stands = subst (Good (underRanks shared loaded)) (sym (heard-alone shared n good empty (noteRanks n loaded))) record {
+  loads right none-stands = subst (Good start (underRanks shared loaded)) (sym (heard-alone shared n good empty (noteRanks n loaded))) record {
     whole = good .whole;
     agree = good .agree;
     tied = good .tied;
@@ -69,7 +70,7 @@ module _ (shared : Shared) (n : Notes) (table : TableFits (shared .tickets)) (go
   load-by none is number = let (whole, right, none-stands) = load-passes (shared .book) (shared .tickets) loaded is in loads right none-stands
   load-by (some refusal) is number = rw number good
 
-  pub loading-kept : Good (leftBy shared (loading loaded)) (hearCall n (loading loaded) (heardOf shared (loading loaded)))
+  pub loading-kept : Good start (leftBy shared (loading loaded)) (hearCall n (loading loaded) (heardOf shared (loading loaded)))
   unfolding loadOf
   loading-kept = load-by (loadRefusal (shared .book) (shared .tickets) loaded) refl (refused-number (shared .book) (shared .tickets) loaded)
 

@@ -31,6 +31,7 @@ use Rattle.calls.specs.Loading.{loadOf}
 use Rattle.calls.specs.Shelves.{shelfOf, withShelf, Filled, storeLengthWrong, shelfUnknown, neverFilled, shelfRefusal, fillRefusal, backRefusal, filledBy, fillOf, backBy, backOf}
 use Rattle.calls.specs.Run.{Call, framed, loading, filling, comingBack, theStore, another, Lent, LentRight, Admitted, Shared, fresh, underRanks, heardOf, leftBy, lentBy, storeAfter, runFrom, run}
 use Rattle.calls.specs.Order.{Notes, noNotes, hearCall, notesFrom}
+use Rattle.calls.specs.Linearizable.{PlainState, freshState}
 use Rattle.calls.specs.Demand1.{TableFits}
 use Rattle.calls.specs.Returning.{ShelvesKeepApart, Went, NotFilled, returnedTo, ComesNotBack, ComingBackReturns}
 use Rattle.calls.proofs.Freshness.{fresh-table}
@@ -72,7 +73,7 @@ emptied-with tickets team ticket teams empty mine other inside none-stands = eli
       there ∙ empty other inside (ap (λ slot. hasTicket (slot .phase)) (sym there) ∙ none-stands)
 ]
 
-module _ (shared : Shared) (n : Notes) (table : TableFits (shared .tickets)) (good : Good shared n) (empty : Emptied (shared .tickets)) where
+module _ {start : PlainState} (shared : Shared) (n : Notes) (table : TableFits (shared .tickets)) (good : Good start shared n) (empty : Emptied (shared .tickets)) where
   request-empties : (request : Request) → Passes (shared .tickets) request → Emptied (requestDone (shared .book) (shared .tickets) (shared .ranks) request .tickets)
   unfolding requestDone openedTicket openedView
   request-empties (Open team edit) passed = emptied-with (shared .tickets) team (openedTicket (shared .ranks) edit) (table .teams) empty (inl refl)
@@ -113,23 +114,23 @@ shelves-keep-apart store book shelf long whole inside = record {
     length-now other known = length-shelf (withShelf store shelf book) other (length-with store book shelf long whole inside) known
 
 -- What holds at all times, and of a shelf since it was filled: it keeps this book.
-pub record Between (shared : Shared) (n : Notes) : Type 0 where
+pub record Between (start : PlainState) (shared : Shared) (n : Notes) : Type 0 where
   pub table : TableFits (shared .tickets)
-  pub good : Good shared n
+  pub good : Good start shared n
   pub empty : Emptied (shared .tickets)
 
 abbrev Keeps : ℕ → Words → Shared → Type 0
 Keeps shelf book shared = (length (shared .store) ≡ wordsInStore) × ((word : ℕ) → word < wordsInBook → readOf (shelfOf (shared .store) shelf) word ≡ readOf book word)
 
-between-call : (call : Call) → Admitted call → (shared : Shared) (n : Notes) → Between shared n → Between (leftBy shared call) (hearCall n call (heardOf shared call))
+between-call : {start : PlainState} (call : Call) → Admitted call → (shared : Shared) (n : Notes) → Between start shared n → Between start (leftBy shared call) (hearCall n call (heardOf shared call))
 unfolding runFrom notesFrom
-between-call call admitted shared n at = record {
+between-call {start} call admitted shared n at = record {
   table = tables-run (call ∷ []) shared (at .table);
   good = good-by call admitted;
   empty = by call admitted;
 }
   where
-    good-by : (call : Call) → Admitted call → Good (leftBy shared call) (hearCall n call (heardOf shared call))
+    good-by : (call : Call) → Admitted call → Good start (leftBy shared call) (hearCall n call (heardOf shared call))
     good-by (framed frame out) bytes = calls-keep (framed frame out ∷ []) (bytes, tt) shared n (at .table) (at .good)
     good-by (loading ranks) right = calls-keep (loading ranks ∷ []) (right, tt) shared n (at .table) (at .good)
     good-by (filling shelf lent) right = calls-keep (filling shelf lent ∷ []) (right, tt) shared n (at .table) (at .good)
@@ -186,7 +187,7 @@ module _ (shared : Shared) (whole : length (shared .book) ≡ wordsInBook) (shel
           → numberOf (outcomeOf (shelfRefusal (bookLengthWrong (shared .book)) (storeLengthWrong (lentBy shared lent)) (ticketStands (shared .tickets)) (shelfUnknown other))) ≢ 0
       not-mine' same went = not-mine same (fill-answers (fillRefusal (shared .book) (shared .tickets) (lentBy shared lent) other) (shared .book) (lentBy shared lent) (shared .filled) other ∙ went)
 
-keeps-run : (shelf : ℕ) → shelf < shelfCount → (book : Words) (calls : List Call) → Every Admitted calls → (shared : Shared) (n : Notes) → Between shared n → Every (NotFilled shelf) (runFrom shared calls .heard)
+keeps-run : {start : PlainState} (shelf : ℕ) → shelf < shelfCount → (book : Words) (calls : List Call) → Every Admitted calls → (shared : Shared) (n : Notes) → Between start shared n → Every (NotFilled shelf) (runFrom shared calls .heard)
     → Keeps shelf book shared → Keeps shelf book (runFrom shared calls .end)
 unfolding runFrom
 keeps-run shelf inside book [] admitted shared n at none-filled keeps = keeps
@@ -205,12 +206,12 @@ same-call shared (loading ranks) = refl
 same-call shared (filling shelf lent) = refl
 same-call shared (comingBack shelf lent) = refl
 
-between-run : (calls : List Call) → Every Admitted calls → (shared : Shared) (n : Notes) → Between shared n → Between (runFrom shared calls .end) (notesFrom n (runFrom shared calls .heard))
+between-run : {start : PlainState} (calls : List Call) → Every Admitted calls → (shared : Shared) (n : Notes) → Between start shared n → Between start (runFrom shared calls .end) (notesFrom n (runFrom shared calls .heard))
 unfolding runFrom notesFrom
 between-run [] admitted shared n at = at
-between-run (call ∷ calls) admitted shared n at =
+between-run {start} (call ∷ calls) admitted shared n at =
     between-run calls (admitted .1) (leftBy shared call) (hearCall n (heardOf shared call .call) (heardOf shared call))
-    (subst (λ same. Between (leftBy shared call) (hearCall n same (heardOf shared call))) (sym (same-call shared call)) (between-call call (admitted .0) shared n at))
+    (subst (λ same. Between start (leftBy shared call) (hearCall n same (heardOf shared call))) (sym (same-call shared call)) (between-call call (admitted .0) shared n at))
 
 -- Two tables in which no ticket stands are the same.
 same-tables : (one two : Tickets) → length (one .slots) ≡ teamCount → length (two .slots) ≡ teamCount → Emptied one → Emptied two
@@ -311,7 +312,7 @@ fresh-empty team inside none-stands = getD-replicate {A = Ticket} teamCount team
 
 pub coming-back-returns : ComingBackReturns
 coming-back-returns store before between shelf first second filled-there none-filled back-here =
-    let start : Between (fresh store) noNotes = record { table = fresh-table; good = fresh-good store; empty = fresh-empty } in
+    let start : Between freshState (fresh store) noNotes = record { table = fresh-table; good = fresh-good store; empty = fresh-empty } in
     let until = run store before .end in
     let at-until = between-run before first (fresh store) noNotes start in
     let call = filling shelf theStore in

@@ -2,7 +2,7 @@
 use mathlib.Core.Path.{_≡_, refl, sym, ap, subst, _∙_}
 use mathlib.Core.Bool.{Bool, true, false, cond, not, true≢false}
 use mathlib.Core.List.{[], _∷_, _++_}
-use mathlib.Core.Logic.{_≢_, inl}
+use mathlib.Core.Logic.{_≢_}
 use mathlib.Core.Option.{Option, none, some}
 use Prim.Native.Nat.{ℕ, zero, suc, _+_, _-_, _<_}
 use native.Mathlib.Omega.{arith}
@@ -17,17 +17,18 @@ use Rattle.words.specs.Words.{Words, wordsInBook, shelfCount, wordsInStore, tea
 use Rattle.words.specs.Tests.{someHolds}
 use Rattle.tickets.specs.declared.Phase.{Phase}
 use Rattle.tickets.specs.declared.Phase.the-variants.{NoTicket, Claiming, Putting, GivingBack, Viewing, Viewed}
-use Rattle.tickets.specs.Tickets.{Tickets, noTicket, ticketOf, hasTicket, standsBelow}
+use Rattle.tickets.specs.Tickets.{Ticket, Tickets, noTicket, ticketOf, hasTicket, standsBelow}
 use Rattle.tickets.specs.Invariant.{Invariant}
+use Rattle.tickets.proofs.Opening.{holds-at-start}
 use Rattle.tickets.proofs.Looking.{unheld-plain}
-use Rattle.plain.specs.Plain.{Plain, wordOf}
+use Rattle.plain.specs.Plain.{Plain, wordOf, Sound}
 use Rattle.plain.proofs.Values.{words-are-values}
 use Rattle.calls.specs.Call.{bookLengthWrong}
 use Rattle.calls.specs.Outcomes.{numberOf, ticketStands}
 use Rattle.calls.specs.Shelves.{shelfAt, shelfOf, withShelf, isFilled, storeLengthWrong, shelfUnknown, neverFilled, shelfRefusal, fillRefusal, backRefusal, filledBy, fillOf, backBy, backOf}
 use Rattle.calls.specs.Run.{Lent, theStore, another, LentRight, filling, comingBack, Shared, onward, lentBy, storeAfter, heardOf, leftBy}
 use Rattle.calls.specs.Order.{filled, cameBack, wasFilled, Noted, Notes, noteEvent, noteOutOfTurn, notedBelow, hearAlone, hearFilled, hearBack, hearCall}
-use Rattle.calls.specs.Linearizable.{freshState, withKept, play}
+use Rattle.calls.specs.Linearizable.{PlainState, withKept, plainFrom}
 use Rattle.calls.specs.Demand1.{TableFits}
 use Rattle.calls.proofs.Orders.{play-last, shelves-last, filled-last, filled-more}
 use Rattle.calls.proofs.Ordered.{played, place-stays, play-filling, filling-ordered, play-back, back-ordered}
@@ -49,7 +50,7 @@ none-below (suc n) tickets none-stands team inside = by (hasTicket (ticketOf tic
       | no other ↦ rest e (omega arith)
     ]
 
-phase-none : (phase : Phase) → hasTicket phase ≡ false → phase ≡ NoTicket
+pub phase-none : (phase : Phase) → hasTicket phase ≡ false → phase ≡ NoTicket
 phase-none NoTicket e = refl
 phase-none Claiming e = absurd (true≢false e)
 phase-none Putting e = absurd (true≢false e)
@@ -65,11 +66,11 @@ module _ (tickets : Tickets) (teams : length (tickets .slots) ≡ teamCount) (no
   ]
 
 -- So none is noted.
-module _ (shared : Shared) (n : Notes) (good : Good shared n) (empty : (team : ℕ) → hasTicket (ticketOf (shared .tickets) team .phase) ≡ false) where
+module _ {start : PlainState} (shared : Shared) (n : Notes) (good : Good start shared n) (empty : (team : ℕ) → hasTicket (ticketOf (shared .tickets) team .phase) ≡ false) where
   pub none-noted : (team : ℕ) → n .tickets team ≡ none
   none-noted team = by (n .tickets team) refl (good .tied team)
     where
-      by : (note : Option Noted) → n .tickets team ≡ note → Tied (ticketOf (shared .tickets) team) note → n .tickets team ≡ none
+      by : (note : Option Noted) → n .tickets team ≡ note → Tied start (ticketOf (shared .tickets) team) note → n .tickets team ≡ none
       by none is tied = is
       by (some noted) is tied = absurd (true≢false (sym (known-stands tied) ∙ empty team))
 
@@ -83,9 +84,9 @@ module _ (shared : Shared) (n : Notes) (good : Good shared n) (empty : (team : �
   heard-alone after = ap (λ b. cond b (noteOutOfTurn n) after) (noted-none teamCount)
 
   -- Every word of the book is the plain one.
-  pub all-plain : (word : ℕ) → word < wordsInBook → readOf (shared .book) word ≡ wordOf (play (n .order)) word
+  pub all-plain : (word : ℕ) → word < wordsInBook → readOf (shared .book) word ≡ wordOf (plainFrom start (n .order)) word
   all-plain word inside =
-      unheld-plain (shared .book) (ticketOf (shared .tickets)) (wordOf (play (n .order))) word (good .agree) (omega (arith, good .whole))
+      unheld-plain (shared .book) (ticketOf (shared .tickets)) (wordOf (plainFrom start (n .order))) word (good .agree) (omega (arith, good .whole))
       (λ holder. true≢false (sym (holder .holds .stands) ∙ empty (holder .team)))
 
 getD-append-left : (xs ys : Words) (i : ℕ) → i < length xs → getD (xs ++ ys) i 0 ≡ getD xs i 0
@@ -139,19 +140,29 @@ module _ (store book : Words) (shelf : ℕ) (long : length store ≡ wordsInStor
         ∙ ap (readOf store) (omega arith)
   ]
 
+-- Where no ticket stands, a whole book with the words of a sound plain book agrees with it.
+pub agrees-alone : (book : Words) (tickets : ℕ → Ticket) (plain : Plain) → ((team : ℕ) → hasTicket (tickets team .phase) ≡ false) → length book ≡ wordsInBook → Sound plain
+    → ((word : ℕ) → word < wordsInBook → readOf book word ≡ wordOf plain word) → Invariant book tickets (wordOf plain)
+agrees-alone book tickets plain empty whole sound words =
+    holds-at-start book tickets (wordOf plain) (λ team. phase-none (tickets team .phase) (empty team))
+    (λ word inside. words word (below word inside)) (λ word inside. words-are-values FourWords plain sound word (below word inside))
+  where
+    below : (word : ℕ) → word < length book → word < wordsInBook
+    below word inside = omega (arith, inside, whole)
+
 -- Filling, by its four checks.
-module _ (shared : Shared) (n : Notes) (table : TableFits (shared .tickets)) (good : Good shared n) (shelf : ℕ) where
+module _ {start : PlainState} (shared : Shared) (n : Notes) (table : TableFits (shared .tickets)) (good : Good start shared n) (shelf : ℕ) where
   -- What a filling leaves and what is heard of it, by its refusal.
   abbrev FilledWell : Lent → Option ℕ → Type 0
   FilledWell lent refusal =
       let result = filledBy refusal (shared .book) (lentBy shared lent) (shared .filled) shelf in
-      Good record { book = shared .book; tickets = shared .tickets; ranks = shared .ranks; store = storeAfter shared lent (result .1); filled = result .2 }
+      Good start record { book = shared .book; tickets = shared .tickets; ranks = shared .ranks; store = storeAfter shared lent (result .1); filled = result .2 }
       (cond (eqb (numberOf (result .0)) 0) (hearFilled n shelf) n)
 
   fills : storeLengthWrong (shared .store) ≡ false → ticketStands (shared .tickets) ≡ false → shelfUnknown shelf ≡ false → FilledWell theStore none
   unfolding wasFilled
   fills right-store none-stands known-shelf =
-      subst (Good after) (sym (heard-alone shared n good empty (cond (ltb shelf shelfCount) (noteEvent n (filled shelf)) (noteOutOfTurn n)) ∙ ap (λ b. cond b (noteEvent n (filled shelf)) (noteOutOfTurn n)) (not-false (ltb shelf shelfCount) known-shelf))) record {
+      subst (Good start after) (sym (heard-alone shared n good empty (cond (ltb shelf shelfCount) (noteEvent n (filled shelf)) (noteOutOfTurn n)) ∙ ap (λ b. cond b (noteEvent n (filled shelf)) (noteOutOfTurn n)) (not-false (ltb shelf shelfCount) known-shelf))) record {
         whole = good .whole;
         agree = subst (λ book. Invariant (shared .book) (ticketOf (shared .tickets)) (wordOf book)) (sym (play-filling (n .order) (good .ordered) shelf)) (good .agree);
         tied = good .tied;
@@ -164,7 +175,7 @@ module _ (shared : Shared) (n : Notes) (table : TableFits (shared .tickets)) (go
           tied = tied;
           heard = heard;
         };
-        places = λ team. place-stays team (n .order) (filled shelf) (placeIn (n .tickets team)) (good .places team);
+        places = λ team. place-stays start team (n .order) (filled shelf) (placeIn (n .tickets team)) (good .places team);
         ends = good .ends;
         tries = good .tries;
         in-turn = good .in-turn;
@@ -185,7 +196,7 @@ module _ (shared : Shared) (n : Notes) (table : TableFits (shared .tickets)) (go
       after : Shared
       after = record { book = shared .book; tickets = shared .tickets; ranks = shared .ranks; store = store; filled = set (shared .filled) shelf true }
 
-      mine : ShelfKept store shelf (play (n .order))
+      mine : ShelfKept store shelf (plainFrom start (n .order))
       mine = record {
         long = length-with (shared .store) (shared .book) shelf long (good .whole) inside;
         inside = inside;
@@ -216,19 +227,19 @@ module _ (shared : Shared) (n : Notes) (table : TableFits (shared .tickets)) (go
         },
       )
 
-      shelves-now : (other : ℕ) → played (n .order ++ (filled shelf ∷ [])) .shelves other ≡ withKept (played (n .order) .shelves) shelf (play (n .order)) other
-      shelves-now other = ap (λ state. state .shelves other) (play-last freshState (n .order) (filled shelf))
+      shelves-now : (other : ℕ) → played start (n .order ++ (filled shelf ∷ [])) .shelves other ≡ withKept (played start (n .order) .shelves) shelf (plainFrom start (n .order)) other
+      shelves-now other = ap (λ state. state .shelves other) (play-last start (n .order) (filled shelf))
 
-      tied : (other : ℕ) → ShelfTied store (isFilled (set (shared .filled) shelf true) other) other (played (n .order ++ (filled shelf ∷ [])) .shelves other)
+      tied : (other : ℕ) → ShelfTied store (isFilled (set (shared .filled) shelf true) other) other (played start (n .order ++ (filled shelf ∷ [])) .shelves other)
       tied other = elim (ℕ-discrete other shelf) [
         | yes same ↦
-            let now = shelves-now other ∙ ap (λ b. cond b (some (play (n .order))) (played (n .order) .shelves other)) (eq-eqb other shelf same) in
+            let now = shelves-now other ∙ ap (λ b. cond b (some (plainFrom start (n .order))) (played start (n .order) .shelves other)) (eq-eqb other shelf same) in
             subst (ShelfTied store (isFilled (set (shared .filled) shelf true) other) other) (sym now)
-            (ap (isFilled (set (shared .filled) shelf true)) same ∙ flag-same, subst (λ (s : ℕ). ShelfKept store s (play (n .order))) (sym same) mine)
+            (ap (isFilled (set (shared .filled) shelf true)) same ∙ flag-same, subst (λ (s : ℕ). ShelfKept store s (plainFrom start (n .order))) (sym same) mine)
         | no differs ↦
-            let now = shelves-now other ∙ ap (λ b. cond b (some (play (n .order))) (played (n .order) .shelves other)) (ne-eqb other shelf differs) in
+            let now = shelves-now other ∙ ap (λ b. cond b (some (plainFrom start (n .order))) (played start (n .order) .shelves other)) (ne-eqb other shelf differs) in
             subst (ShelfTied store (isFilled (set (shared .filled) shelf true) other) other) (sym now)
-            (others other differs (played (n .order) .shelves other) (good .shelved .tied other))
+            (others other differs (played start (n .order) .shelves other) (good .shelved .tied other))
       ]
 
       itself : (b : Bool) → cond b true false ≡ b
@@ -272,7 +283,7 @@ module _ (shared : Shared) (n : Notes) (table : TableFits (shared .tickets)) (go
   only-one theStore right e = refl
   only-one (another store) right e = absurd (true≢false (sym right ∙ e))
 
-  pub filling-kept : (lent : Lent) → LentRight lent → Good (leftBy shared (filling shelf lent)) (hearCall n (filling shelf lent) (heardOf shared (filling shelf lent)))
+  pub filling-kept : (lent : Lent) → LentRight lent → Good start (leftBy shared (filling shelf lent)) (hearCall n (filling shelf lent) (heardOf shared (filling shelf lent)))
   unfolding fillOf fillRefusal
   filling-kept lent right =
       fill-by lent (bookLengthWrong (shared .book)) (storeLengthWrong (lentBy shared lent)) (ticketStands (shared .tickets)) (shelfUnknown shelf)
@@ -282,15 +293,15 @@ module _ (shared : Shared) (n : Notes) (table : TableFits (shared .tickets)) (go
   abbrev CameBackWell : Lent → Option ℕ → Type 0
   CameBackWell lent refusal =
       let result = backBy refusal (shared .book) (lentBy shared lent) shelf in
-      Good (onward shared (result .1) (shared .tickets)) (cond (eqb (numberOf (result .0)) 0) (hearBack n shelf) n)
+      Good start (onward shared (result .1) (shared .tickets)) (cond (eqb (numberOf (result .0)) 0) (hearBack n shelf) n)
 
   module _ (none-stands : ticketStands (shared .tickets) ≡ false) (flag : isFilled (shared .filled) shelf ≡ true) where
     empty : (team : ℕ) → hasTicket (ticketOf (shared .tickets) team .phase) ≡ false
     empty = no-ticket (shared .tickets) (table .teams) none-stands
 
-    comes : (kept : Plain) → played (n .order) .shelves shelf ≡ some kept → ShelfKept (shared .store) shelf kept → CameBackWell theStore none
+    comes : (kept : Plain) → played start (n .order) .shelves shelf ≡ some kept → ShelfKept (shared .store) shelf kept → CameBackWell theStore none
     comes kept is was =
-        subst (Good after) (sym (heard-alone shared n good empty (cond (wasFilled shelf (n .order)) (noteEvent n (cameBack shelf)) (noteOutOfTurn n)) ∙ ap (λ b. cond b (noteEvent n (cameBack shelf)) (noteOutOfTurn n)) (sym (good .shelved .heard shelf) ∙ flag))) record {
+        subst (Good start after) (sym (heard-alone shared n good empty (cond (wasFilled shelf (n .order)) (noteEvent n (cameBack shelf)) (noteOutOfTurn n)) ∙ ap (λ b. cond b (noteEvent n (cameBack shelf)) (noteOutOfTurn n)) (sym (good .shelved .heard shelf) ∙ flag))) record {
           whole = whole;
           agree = subst (λ book. Invariant (shelfOf (shared .store) shelf) (ticketOf (shared .tickets)) (wordOf book)) (sym (play-back (n .order) (good .ordered) shelf kept is)) agree;
           tied = good .tied;
@@ -300,10 +311,10 @@ module _ (shared : Shared) (n : Notes) (table : TableFits (shared .tickets)) (go
           ordered = back-ordered (n .order) (good .ordered) shelf kept is (was .sound);
           shelved = record {
             flags = good .shelved .flags;
-            tied = λ other. subst (ShelfTied (shared .store) (isFilled (shared .filled) other) other) (sym (shelves-last freshState (n .order) (cameBack shelf) refl other)) (good .shelved .tied other);
+            tied = λ other. subst (ShelfTied (shared .store) (isFilled (shared .filled) other) other) (sym (shelves-last start (n .order) (cameBack shelf) refl other)) (good .shelved .tied other);
             heard = λ other. good .shelved .heard other ∙ sym (filled-last other (n .order) (cameBack shelf) refl);
           };
-          places = λ team. place-stays team (n .order) (cameBack shelf) (placeIn (n .tickets team)) (good .places team);
+          places = λ team. place-stays start team (n .order) (cameBack shelf) (placeIn (n .tickets team)) (good .places team);
           ends = good .ends;
           tries = good .tries;
           in-turn = good .in-turn;
@@ -315,21 +326,13 @@ module _ (shared : Shared) (n : Notes) (table : TableFits (shared .tickets)) (go
         whole : length (shelfOf (shared .store) shelf) ≡ wordsInBook
         whole = length-shelf (shared .store) shelf (was .long) (was .inside)
 
-        below : (word : ℕ) → word < length (shelfOf (shared .store) shelf) → word < wordsInBook
-        below word inside = omega (arith, inside, whole)
-
         agree : Invariant (shelfOf (shared .store) shelf) (ticketOf (shared .tickets)) (wordOf kept)
-        agree = record {
-          fit = λ team. inl (phase-none (ticketOf (shared .tickets) team .phase) (empty team));
-          held = λ team word value holds. absurd (true≢false (sym (holds .stands) ∙ empty team));
-          free = λ word inside small. was .words word (below word inside);
-          owned = λ word inside large. absurd (omega (arith, large, was .words word (below word inside), words-are-values FourWords kept (was .sound) word (below word inside)));
-        }
+        agree = agrees-alone (shelfOf (shared .store) shelf) (ticketOf (shared .tickets)) kept empty whole (was .sound) (was .words)
 
     comes-back : CameBackWell theStore none
-    comes-back = by (played (n .order) .shelves shelf) refl (good .shelved .tied shelf)
+    comes-back = by (played start (n .order) .shelves shelf) refl (good .shelved .tied shelf)
       where
-        by : (kept : Option Plain) → played (n .order) .shelves shelf ≡ kept → ShelfTied (shared .store) (isFilled (shared .filled) shelf) shelf kept → CameBackWell theStore none
+        by : (kept : Option Plain) → played start (n .order) .shelves shelf ≡ kept → ShelfTied (shared .store) (isFilled (shared .filled) shelf) shelf kept → CameBackWell theStore none
         by none is tied = absurd (true≢false (sym flag ∙ tied))
         by (some kept) is (flagged, was) = comes kept is was
 
@@ -353,7 +356,7 @@ module _ (shared : Shared) (n : Notes) (table : TableFits (shared .tickets)) (go
   back-by lent false false false false one none-stands known =
       subst (λ lent. CameBackWell lent none) (sym (one refl)) (comes-back none-stands (passes-filled (shelfUnknown shelf) (isFilled (shared .filled) shelf) known))
 
-  pub coming-back-kept : (lent : Lent) → LentRight lent → Good (leftBy shared (comingBack shelf lent)) (hearCall n (comingBack shelf lent) (heardOf shared (comingBack shelf lent)))
+  pub coming-back-kept : (lent : Lent) → LentRight lent → Good start (leftBy shared (comingBack shelf lent)) (hearCall n (comingBack shelf lent) (heardOf shared (comingBack shelf lent)))
   unfolding backOf backRefusal
   coming-back-kept lent right =
       back-by lent (bookLengthWrong (shared .book)) (storeLengthWrong (lentBy shared lent)) (ticketStands (shared .tickets)) (neverFilled (shared .filled) shelf) (only-one lent right) refl refl

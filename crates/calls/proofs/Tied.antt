@@ -28,7 +28,7 @@ use Rattle.edits.specs.Views.{FineView}
 use Rattle.edits.proofs.Stored.{targets-counted}
 use Rattle.plain.specs.Plain.{wordOf}
 use Rattle.calls.specs.Order.{Verdict, granted, stale, Event, Asked, anEdit, aView, wordsAsked, countAsked, Decision, Noted, holdsTarget, holdsAmong, holdsWord}
-use Rattle.calls.specs.Linearizable.{play, DecisionRight, Differed, Undecided}
+use Rattle.calls.specs.Linearizable.{PlainState, plainFrom, DecisionRight, Differed, Undecided}
 use Rattle.calls.proofs.Ordered.{Fine}
 
 -- The numbers heard are those from 1 to so many, each once.
@@ -79,11 +79,11 @@ up-to-more most heard known = record {
 }
 
 -- Decided exactly once, with this verdict, as the plain book finds.
-pub record Decided (edit : Edit) (verdict : Verdict) (noted : Noted) : Type 0 where
+pub record Decided (start : PlainState) (edit : Edit) (verdict : Verdict) (noted : Noted) : Type 0 where
   pub decision : Decision
   pub once : noted .decisions ≡ decision ∷ []
   pub is : decision .verdict ≡ verdict
-  pub right : DecisionRight edit decision
+  pub right : DecisionRight start edit decision
 
 -- Claiming: not decided; each step was a claim or a wait.
 pub record HeardClaiming (ticket : Ticket) (noted : Noted) : Type 0 where
@@ -91,69 +91,69 @@ pub record HeardClaiming (ticket : Ticket) (noted : Noted) : Type 0 where
   pub swapped : noted .steps ≡ ticket .claimed + noted .waits
 
 -- Putting: decided as granted; each step was a claim, a wait or a put.
-pub record HeardPutting (edit : Edit) (ticket : Ticket) (noted : Noted) : Type 0 where
-  pub decided : Decided edit granted noted
+pub record HeardPutting (start : PlainState) (edit : Edit) (ticket : Ticket) (noted : Noted) : Type 0 where
+  pub decided : Decided start edit granted noted
   pub not-found : noted .found ≡ none
   pub swapped : noted .steps ≡ ticket .claimed + ticket .done + noted .waits
 
 -- Giving back: decided as stale; Found named the word of the next target, which differed.
-pub record HeardGivingBack (edit : Edit) (ticket : Ticket) (noted : Noted) : Type 0 where
-  pub decided : Decided edit stale noted
+pub record HeardGivingBack (start : PlainState) (edit : Edit) (ticket : Ticket) (noted : Noted) : Type 0 where
+  pub decided : Decided start edit stale noted
   pub found : noted .found ≡ some (targetAt ticket (ticket .claimed) .word)
-  pub differed : Differed edit noted (decided .decision) (targetAt ticket (ticket .claimed) .word)
+  pub differed : Differed start edit noted (decided .decision) (targetAt ticket (ticket .claimed) .word)
 
-abbrev pub HeardIn : Edit → Phase → Ticket → Noted → Type 0
-HeardIn edit NoTicket ticket noted = ⊥
-HeardIn edit Claiming ticket noted = HeardClaiming ticket noted
-HeardIn edit Putting ticket noted = HeardPutting edit ticket noted
-HeardIn edit GivingBack ticket noted = HeardGivingBack edit ticket noted
-HeardIn edit Viewing ticket noted = ⊥
-HeardIn edit Viewed ticket noted = ⊥
+abbrev pub HeardIn : PlainState → Edit → Phase → Ticket → Noted → Type 0
+HeardIn start edit NoTicket ticket noted = ⊥
+HeardIn start edit Claiming ticket noted = HeardClaiming ticket noted
+HeardIn start edit Putting ticket noted = HeardPutting start edit ticket noted
+HeardIn start edit GivingBack ticket noted = HeardGivingBack start edit ticket noted
+HeardIn start edit Viewing ticket noted = ⊥
+HeardIn start edit Viewed ticket noted = ⊥
 
 -- What is known of an edit's ticket.
-pub record KnownEdit (edit : Edit) (ticket : Ticket) (noted : Noted) : Type 0 where
+pub record KnownEdit (start : PlainState) (edit : Edit) (ticket : Ticket) (noted : Noted) : Type 0 where
   pub fine : Fine edit
   pub targets : targetsIn ticket ≡ storedTargets (noted .ranks) edit
-  pub phase : HeardIn edit (ticket .phase) ticket noted
+  pub phase : HeardIn start edit (ticket .phase) ticket noted
 
 -- A view that gives back has its place, and the values noted are the plain book's words there.
-pub record HeardViewed (ticket : Ticket) (noted : Noted) : Type 0 where
+pub record HeardViewed (start : PlainState) (ticket : Ticket) (noted : Noted) : Type 0 where
   pub before : List Event
   pub placed : noted .place ≡ some before
-  pub shows : AllMatch (targetsIn ticket) (wordOf (play before))
+  pub shows : AllMatch (targetsIn ticket) (wordOf (plainFrom start before))
 
-abbrev pub ViewIn : Phase → Ticket → Noted → Type 0
-ViewIn NoTicket ticket noted = ⊥
-ViewIn Claiming ticket noted = ⊥
-ViewIn Putting ticket noted = ⊥
-ViewIn GivingBack ticket noted = ⊥
-ViewIn Viewing ticket noted = noted .place ≡ none
-ViewIn Viewed ticket noted = HeardViewed ticket noted
+abbrev pub ViewIn : PlainState → Phase → Ticket → Noted → Type 0
+ViewIn start NoTicket ticket noted = ⊥
+ViewIn start Claiming ticket noted = ⊥
+ViewIn start Putting ticket noted = ⊥
+ViewIn start GivingBack ticket noted = ⊥
+ViewIn start Viewing ticket noted = noted .place ≡ none
+ViewIn start Viewed ticket noted = HeardViewed start ticket noted
 
 -- What is known of a view: it is never decided; each step was a claim, a wait or a return.
-pub record KnownView (words : List ℕ) (ticket : Ticket) (noted : Noted) : Type 0 where
+pub record KnownView (start : PlainState) (words : List ℕ) (ticket : Ticket) (noted : Noted) : Type 0 where
   pub fine : FineView words
   pub names : namedIn ticket ≡ words
   pub undecided : Undecided noted
   pub swapped : noted .steps ≡ ticket .claimed + ticket .done + noted .waits
-  pub phase : ViewIn (ticket .phase) ticket noted
+  pub phase : ViewIn start (ticket .phase) ticket noted
 
-abbrev pub KnownAs : Asked → Ticket → Noted → Type 0
-KnownAs (anEdit edit) ticket noted = KnownEdit edit ticket noted
-KnownAs (aView words) ticket noted = KnownView words ticket noted
+abbrev pub KnownAs : PlainState → Asked → Ticket → Noted → Type 0
+KnownAs start (anEdit edit) ticket noted = KnownEdit start edit ticket noted
+KnownAs start (aView words) ticket noted = KnownView start words ticket noted
 
 -- What is known of a ticket by what was heard of it, of an edit's and of a view, in every phase.
-pub record Known (ticket : Ticket) (noted : Noted) : Type 0 where
+pub record Known (start : PlainState) (ticket : Ticket) (noted : Noted) : Type 0 where
   pub words : wordsIn ticket ≡ wordsAsked (noted .ranks) (noted .asked)
   pub spent : ticket .tries ≡ min (noted .steps) mostTries
   pub claimed : UpTo (ticket .claimed) (noted .claimed)
   pub released : UpTo (ticket .done) (noted .released)
-  pub rest : KnownAs (noted .asked) ticket noted
+  pub rest : KnownAs start (noted .asked) ticket noted
 
 -- A team's slot and its note: neither has a ticket, or both have the same.
-abbrev pub Tied : Ticket → Option Noted → Type 0
-Tied ticket none = ticket .phase ≡ NoTicket
-Tied ticket (some noted) = Known ticket noted
+abbrev pub Tied : PlainState → Ticket → Option Noted → Type 0
+Tied start ticket none = ticket .phase ≡ NoTicket
+Tied start ticket (some noted) = Known start ticket noted
 
 -- A ticket that is noted was opened under these ranks.
 abbrev pub Under : Ranks → Option Noted → Type 0
@@ -161,30 +161,30 @@ Under ranks none = Unit {0}
 Under ranks (some noted) = noted .ranks ≡ ranks
 
 -- A ticket of which something is known stands.
-edit-stands : (edit : Edit) (phase : Phase) (ticket : Ticket) (noted : Noted) → HeardIn edit phase ticket noted → hasTicket phase ≡ true
-edit-stands edit NoTicket ticket noted heard = absurd heard
-edit-stands edit Claiming ticket noted heard = refl
-edit-stands edit Putting ticket noted heard = refl
-edit-stands edit GivingBack ticket noted heard = refl
-edit-stands edit Viewing ticket noted heard = refl
-edit-stands edit Viewed ticket noted heard = refl
+edit-stands : (start : PlainState) (edit : Edit) (phase : Phase) (ticket : Ticket) (noted : Noted) → HeardIn start edit phase ticket noted → hasTicket phase ≡ true
+edit-stands start edit NoTicket ticket noted heard = absurd heard
+edit-stands start edit Claiming ticket noted heard = refl
+edit-stands start edit Putting ticket noted heard = refl
+edit-stands start edit GivingBack ticket noted heard = refl
+edit-stands start edit Viewing ticket noted heard = refl
+edit-stands start edit Viewed ticket noted heard = refl
 
-view-stands : (phase : Phase) (ticket : Ticket) (noted : Noted) → ViewIn phase ticket noted → hasTicket phase ≡ true
-view-stands NoTicket ticket noted heard = absurd heard
-view-stands Claiming ticket noted heard = refl
-view-stands Putting ticket noted heard = refl
-view-stands GivingBack ticket noted heard = refl
-view-stands Viewing ticket noted heard = refl
-view-stands Viewed ticket noted heard = refl
+view-stands : (start : PlainState) (phase : Phase) (ticket : Ticket) (noted : Noted) → ViewIn start phase ticket noted → hasTicket phase ≡ true
+view-stands start NoTicket ticket noted heard = absurd heard
+view-stands start Claiming ticket noted heard = refl
+view-stands start Putting ticket noted heard = refl
+view-stands start GivingBack ticket noted heard = refl
+view-stands start Viewing ticket noted heard = refl
+view-stands start Viewed ticket noted heard = refl
 
-stands-as : (asked : Asked) (ticket : Ticket) (noted : Noted) → KnownAs asked ticket noted → hasTicket (ticket .phase) ≡ true
-stands-as (anEdit edit) ticket noted known = edit-stands edit (ticket .phase) ticket noted (known .phase)
-stands-as (aView words) ticket noted known = view-stands (ticket .phase) ticket noted (known .phase)
+stands-as : (start : PlainState) (asked : Asked) (ticket : Ticket) (noted : Noted) → KnownAs start asked ticket noted → hasTicket (ticket .phase) ≡ true
+stands-as start (anEdit edit) ticket noted known = edit-stands start edit (ticket .phase) ticket noted (known .phase)
+stands-as start (aView words) ticket noted known = view-stands start (ticket .phase) ticket noted (known .phase)
 
 -- It has as many targets as were asked for.
-count-as : (asked : Asked) (ticket : Ticket) (noted : Noted) → KnownAs asked ticket noted → ticket .n ≡ countAsked asked
-count-as (anEdit edit) ticket noted known = sym (length-targets ticket) ∙ ap length (known .targets) ∙ targets-counted (noted .ranks) edit .1
-count-as (aView words) ticket noted known = sym (length-targets ticket) ∙ sym (length-map (targetsIn ticket) (λ one. one .new)) ∙ ap length (known .names)
+count-as : (start : PlainState) (asked : Asked) (ticket : Ticket) (noted : Noted) → KnownAs start asked ticket noted → ticket .n ≡ countAsked asked
+count-as start (anEdit edit) ticket noted known = sym (length-targets ticket) ∙ ap length (known .targets) ∙ targets-counted (noted .ranks) edit .1
+count-as start (aView words) ticket noted known = sym (length-targets ticket) ∙ sym (length-map (targetsIn ticket) (λ one. one .new)) ∙ ap length (known .names)
 
 -- No more is claimed than there are targets.
 claimed-most : (size : ℕ) (ticket : Ticket) → FitTicket size ticket → hasTicket (ticket .phase) ≡ true → ticket .claimed ≤ ticket .n
@@ -216,19 +216,19 @@ module _ (noted : Noted) (word : ℕ) where
   ]
 
 -- The target after those claimed.
-pub known-next : {edit : Edit} {ticket : Ticket} {noted : Noted} → Known ticket noted → KnownEdit edit ticket noted → ticket .claimed < ticket .n
+pub known-next : {start : PlainState} {edit : Edit} {ticket : Ticket} {noted : Noted} → Known start ticket noted → KnownEdit start edit ticket noted → ticket .claimed < ticket .n
     → targetAt ticket (ticket .claimed) ≡ targetIn (storedTargets (noted .ranks) edit) (length (noted .claimed))
 known-next {edit} {ticket} {noted} known of-edit below =
     sym (target-listed ticket (ticket .claimed) below)
     ∙ ap (λ targets. targetIn targets (ticket .claimed)) (of-edit .targets)
     ∙ ap (targetIn (storedTargets (noted .ranks) edit)) (sym (known .claimed .many))
 
-module _ {ticket : Ticket} {noted : Noted} (known : Known ticket noted) where
+module _ {start : PlainState} {ticket : Ticket} {noted : Noted} (known : Known start ticket noted) where
   pub known-stands : hasTicket (ticket .phase) ≡ true
-  known-stands = stands-as (noted .asked) ticket noted (known .rest)
+  known-stands = stands-as start (noted .asked) ticket noted (known .rest)
 
   pub known-count : ticket .n ≡ countAsked (noted .asked)
-  known-count = count-as (noted .asked) ticket noted (known .rest)
+  known-count = count-as start (noted .asked) ticket noted (known .rest)
 
   -- Its words are those asked for.
   known-many : ticket .n ≡ length (wordsAsked (noted .ranks) (noted .asked))

@@ -20,7 +20,7 @@ use Rattle.tickets.proofs.Seeing.{values-named}
 use Rattle.frames.specs.Answers.{valuesShown}
 use Rattle.plain.specs.Plain.{wordOf}
 use Rattle.calls.specs.Order.{Event, seen, reserved, aView, Noted, wasSeen, Notes, withClaimed, withReleased, withWait, withStep, withPlace, endedBy, hearSeen, hearPlace}
-use Rattle.calls.specs.Linearizable.{freshState, play, Undecided}
+use Rattle.calls.specs.Linearizable.{PlainState, plainFrom, Undecided}
 use Rattle.calls.proofs.Orders.{PlaceAt}
 use Rattle.calls.proofs.Ordered.{PlaceKept, play-reserved, order-reserved, play-full, order-filled}
 use Rattle.calls.proofs.Tied.{UpTo, up-to-more, HeardViewed, ViewIn, Known, known-count}
@@ -47,11 +47,11 @@ view-shows {size} ticket plain words fit view names matches =
     ap (λ n. take n (valuesOf (valuesSeen ticket))) (sym many) ∙ all-shown (valuesNamed ticket) most ∙ values-named size ticket plain fit view matches ∙ ap (map plain) names
 
 -- A step of a view of which this was heard.
-module _ (words : List ℕ) (heard : Noted) (turn : Turn (asking (aView words) (heard .ranks) heard)) where
+module _ {start : PlainState} (words : List ℕ) (heard : Noted) (turn : Turn start (asking (aView words) (heard .ranks) heard)) where
   abbrev n : Notes
   n = turn .n
 
-  abbrev good : Good (turn .shared) n
+  abbrev good : Good start (turn .shared) n
   good = turn .good
 
   abbrev team : ℕ
@@ -61,9 +61,9 @@ module _ (words : List ℕ) (heard : Noted) (turn : Turn (asking (aView words) (
   ticket = ticketOf (turn .shared .tickets) team
 
   abbrev plain : ℕ → ℕ
-  plain = wordOf (play (n .order))
+  plain = wordOf (plainFrom start (n .order))
 
-  abbrev known : Known ticket (asking (aView words) (heard .ranks) heard)
+  abbrev known : Known start ticket (asking (aView words) (heard .ranks) heard)
   known = turn .known
 
   abbrev watched : Noted
@@ -72,8 +72,8 @@ module _ (words : List ℕ) (heard : Noted) (turn : Turn (asking (aView words) (
   -- It goes on with the same words, claimed and named.
   view-goes : (base : Ticket) → wordsIn base ≡ wordsIn ticket → namedIn base ≡ namedIn ticket → base .tries ≡ ticket .tries → {phase : Phase} {claimed done : ℕ} (after : Noted) → after .steps ≡ watched .steps
       → UpTo claimed (after .claimed) → UpTo done (after .released) → Undecided after → after .steps ≡ claimed + done + after .waits
-      → ViewIn phase (advanced base phase claimed done) (asking (aView words) (heard .ranks) after)
-      → Known (advanced base phase claimed done) (asking (aView words) (heard .ranks) after)
+      → ViewIn start phase (advanced base phase claimed done) (asking (aView words) (heard .ranks) after)
+      → Known start (advanced base phase claimed done) (asking (aView words) (heard .ranks) after)
   view-goes base same-words same-names same-tries {phase} {claimed} {done} after one-more taken let-go undecided swapped phase-heard =
       advances turn base same-words same-tries after one-more taken let-go record {
         fine = known .rest .fine;
@@ -83,8 +83,8 @@ module _ (words : List ℕ) (heard : Noted) (turn : Turn (asking (aView words) (
         phase = phase-heard;
       }
 
-  view-in : (phase : Phase) → ticket .phase ≡ phase → ViewIn phase ticket (asking (aView words) (heard .ranks) heard)
-  view-in phase e = subst (λ phase. ViewIn phase ticket (asking (aView words) (heard .ranks) heard)) e (known .rest .phase)
+  view-in : (phase : Phase) → ticket .phase ≡ phase → ViewIn start phase ticket (asking (aView words) (heard .ranks) heard)
+  view-in phase e = subst (λ phase. ViewIn start phase ticket (asking (aView words) (heard .ranks) heard)) e (known .rest .phase)
 
   step-notes : ticket .phase ≡ Viewing → ticket .claimed + 1 < ticket .n
       → (value : ℕ) → Leaving turn plain (advanced (noting ticket value) Viewing (ticket .claimed + 1) (ticket .done)) (Claimed (ticket .claimed + 1))
@@ -126,7 +126,7 @@ module _ (words : List ℕ) (heard : Noted) (turn : Turn (asking (aView words) (
       (order-reserved (n .order) (good .ordered) team) (good .ends) (good .tries)
 
   module _ (viewed : ticket .phase ≡ Viewed) where
-    heard-viewed : HeardViewed ticket (asking (aView words) (heard .ranks) heard)
+    heard-viewed : HeardViewed start ticket (asking (aView words) (heard .ranks) heard)
     heard-viewed = view-in Viewed viewed
 
     view-returns : Leaving turn plain (advanced ticket Viewed (ticket .claimed) (ticket .done + 1)) (Returned (ticket .done + 1))
@@ -139,7 +139,7 @@ module _ (words : List ℕ) (heard : Noted) (turn : Turn (asking (aView words) (
           before = heard-viewed .before;
           placed = heard-viewed .placed;
           shows =
-              subst (λ targets. AllMatch targets (wordOf (play (heard-viewed .before)))) (sym (targets-advanced ticket Viewed (ticket .claimed) (ticket .done + 1))) (heard-viewed .shows);
+              subst (λ targets. AllMatch targets (wordOf (plainFrom start (heard-viewed .before)))) (sym (targets-advanced ticket Viewed (ticket .claimed) (ticket .done + 1))) (heard-viewed .shows);
         })
         refl
 
@@ -151,14 +151,14 @@ module _ (words : List ℕ) (heard : Noted) (turn : Turn (asking (aView words) (
         let before = heard-viewed .before in
         let values : List ℕ = valuesShown (valuesSeen ticket) in
         let order : List Event = set (n .order) (length before) (seen words values) in
-        let shown : values ≡ map (wordOf (play before)) words = view-shows ticket (wordOf (play before)) words (fit turn) (ap isView viewed) (known .rest .names) (heard-viewed .shows) in
-        let place : PlaceAt team freshState (n .order) (length before) (play before) = subst (PlaceKept team (n .order)) (heard-viewed .placed) (my-place turn) in
+        let shown : values ≡ map (wordOf (plainFrom start before)) words = view-shows ticket (wordOf (plainFrom start before)) words (fit turn) (ap isView viewed) (known .rest .names) (heard-viewed .shows) in
+        let place : PlaceAt team start (n .order) (length before) (plainFrom start before) = subst (PlaceKept start team (n .order)) (heard-viewed .placed) (my-place turn) in
         let all = viewed-counts ticket (fit turn) viewed .1 in
         let count = known-count known in
         ends-as turn order (endedBy watched (wasSeen values))
-        (still turn (play-full (n .order) (good .ordered) team (length before) words values (play before) place) left)
+        (still turn (play-full (n .order) (good .ordered) team (length before) words values (plainFrom start before) place) left)
         (ap (λ place. hearSeen n team watched (aView words) place values) (heard-viewed .placed))
-        (order-filled (n .order) (good .ordered) team (length before) words values (play before) place shown)
+        (order-filled (n .order) (good .ordered) team (length before) words values (plainFrom start before) place shown)
         record { before = before; placed = heard-viewed .placed; shows = shown }
         (tt, omega (arith, known .rest .swapped))
 

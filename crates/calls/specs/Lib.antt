@@ -8,6 +8,7 @@ pub mod Linearizable
 pub mod Returning
 pub mod Holder
 pub mod Demand1
+pub mod Demand3From
 pub mod Minutes
 pub mod Demand2
 pub mod Survey

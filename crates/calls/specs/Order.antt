@@ -125,7 +125,7 @@ pub record Notes : Type 0 where
   pub order : List Event
   pub tickets : ℕ → Option Noted
   pub ended : List Ended
-  -- those of the last load that went, and before one the fixed ones
+  -- those of the last load that went, and before one those of the start
   pub ranks : Ranks
   -- (An edit's ticket can't get Seen; a view can't get Found, Put, Granted or Stale, nor Seen before its last claim. An answer of the right kind
   -- at a wrong moment, as Put while an edit claims, is not counted: like Waiting while the word is free, demand 2's step rule forbids it.)
@@ -134,8 +134,12 @@ pub record Notes : Type 0 where
 abbrev pub notes : List Event → (ℕ → Option Noted) → List Ended → Ranks → ℕ → Notes
 notes order tickets ended ranks outOfTurn = record { order = order; tickets = tickets; ended = ended; ranks = ranks; outOfTurn = outOfTurn }
 
+-- At the start nothing but the ranks in force; and those are the fixed ones where a book is fresh.
+abbrev pub firstNotes : Ranks → Notes
+firstNotes ranks = notes [] (λ team. none) [] ranks 0
+
 abbrev pub noNotes : Notes
-noNotes = notes [] (λ team. none) [] fixedRanks 0
+noNotes = firstNotes fixedRanks
 
 -- The tickets with another for one team.
 abbrev pub retold : (ℕ → Option Noted) → ℕ → Option Noted → ℕ → Option Noted
@@ -322,13 +326,19 @@ notesFrom n (one ∷ heard) = notesFrom (hearCall n (one .call) one) heard
 abbrev pub notesOn : List Heard → Notes
 notesOn heard = notesFrom noNotes heard
 
--- The order of what was heard. Its type has neither the book nor the tickets in it.
+-- The order of what was heard since the first notes. Its type has neither the book nor the tickets in it.
+abbrev pub orderFrom : Notes → List Heard → List Event
+orderFrom first heard = finished (notesFrom first heard .order)
+
 abbrev pub order : List Heard → List Event
-order heard = finished (notesOn heard .order)
+order heard = orderFrom noNotes heard
 
 -- The tickets whose last answer has come.
+abbrev pub endedFrom : Notes → List Heard → List Ended
+endedFrom first heard = notesFrom first heard .ended
+
 abbrev pub ended : List Heard → List Ended
-ended heard = notesOn heard .ended
+ended heard = endedFrom noNotes heard
 
 -- "A ticket holds its k-th target by position from Claimed k until Put k, Returned k" (or its last answer, when it is gone).
 abbrev pub holdsTarget : Noted → ℕ → Bool
@@ -344,9 +354,15 @@ abbrev pub holdsWord : Option Noted → ℕ → Bool
 holdsWord none word = false
 holdsWord (some ticket) word = holdsAmong ticket word 1 (wordsAsked (ticket .ranks) (ticket .asked))
 
-unfoldable pub holds : List Heard → ℕ → ℕ → Bool
-holds heard team word = holdsWord (notesOn heard .tickets team) word
+unfoldable pub holdsFrom : Notes → List Heard → ℕ → ℕ → Bool
+holdsFrom first heard team word = holdsWord (notesFrom first heard .tickets team) word
 
--- A team holds a word, by what was heard.
+abbrev pub holds : List Heard → ℕ → ℕ → Bool
+holds heard team word = holdsFrom noNotes heard team word
+
+-- A team holds a word, by what was heard since the first notes.
+abbrev pub HeldFrom : Notes → List Heard → ℕ → ℕ → Type 0
+HeldFrom first heard team word = holdsFrom first heard team word ≡ true
+
 abbrev pub HeldBy : List Heard → ℕ → ℕ → Type 0
-HeldBy heard team word = holds heard team word ≡ true
+HeldBy heard team word = HeldFrom noNotes heard team word

@@ -27,7 +27,7 @@ use Rattle.carrying.proofs.Carrying.{length-laid-out, laid-out-words, c
 use Rattle.carrying.proofs.Answers.{carry-answers}
 
 -- Every definition that the tests of a carry-over come to, opened at once.
-unfoldable everything : Unit {0}
+unfoldable pub everything : Unit {0}
 unfolding allHold someHolds placeInRange measureInRange isPlace isMeasure readingOf mayFollow walk walkPassage walkBelow usedOrZero restZero isSoundIn standsBelow openedView orderedBy insertBy positionBy listsFrom plainIn legAbove carryChecks carryRefusal findBelow wordIn
 everything = tt
 
@@ -60,7 +60,7 @@ standing = withTicket freshTickets 15 (openedView fixedRanks (7 ∷ []))
 abbrev unsound : Words
 unsound = set old (newestWord 5) 1
 
-abbrev second : Words
+abbrev pub second : Words
 second = replicate 4096 9
 
 -- 1, of the old book and of the second, before 14; 14 before 15; 15.
@@ -87,12 +87,12 @@ unsound-first : carryRefusal unsoundAbove second freshTickets ≡ some 15
 unfolding everything
 unsound-first = refl
 
-none-stands : ticketStands freshTickets ≡ false
+pub none-stands : ticketStands freshTickets ≡ false
 unfolding everything
 none-stands = refl
 
 -- A book of one leg, in passage 0.
-abbrev alone : ℕ → Plain
+abbrev pub alone : ℕ → Plain
 alone number = (record { number = number; stations = record { from = 1; to = 2 }; measure = record { distance = 5000; compass = 9000; clino = negsuc 149 } } ∷ []) ∷ replicate 31 []
 
 no-list : (n passage : ℕ) → listOf (replicate n []) passage ≡ []
@@ -101,7 +101,7 @@ no-list (suc n) zero = refl
 no-list (suc n) (suc passage) = no-list n passage
 
 -- It keeps the rules, if its leg is in range.
-alone-sound : (number : ℕ) → allInRange ThreeWords 0 (listOf (alone number) 0) ≡ true → SoundIn ThreeWords (alone number)
+pub alone-sound : (number : ℕ) → allInRange ThreeWords 0 (listOf (alone number) 0) ≡ true → SoundIn ThreeWords (alone number)
 unfolding timesBelow
 alone-sound number fits = record { passages = refl; in-range = in-range; none-twice = none-twice }
   where

@@ -12,11 +12,16 @@ use Rattle.words.specs.declared.LegLayout.{LegLayout}
 use Rattle.words.specs.declared.LegLayout.the-variants.{ThreeWords, FourWords}
 use Rattle.words.specs.Words.{Words, wordsInBook, lastLeg}
 use Rattle.tickets.specs.Tickets.{Tickets}
+use Rattle.legs.specs.Positions.{Ranks, Accepted}
 use Rattle.plain.specs.Plain.{Plain, NumberedLeg, wordIn, SoundIn, Sound}
 use Rattle.calls.specs.declared.Outcome.{Outcome}
 use Rattle.calls.specs.declared.Outcome.the-variants.{Done, Refused}
 use Rattle.calls.specs.Call.{Check, check, firstOf, bookLengthWrong}
 use Rattle.calls.specs.Outcomes.{outcomeOf, ticketStands}
+use Rattle.calls.specs.Shelves.{noneFilled}
+use Rattle.calls.specs.Run.{Shared}
+use Rattle.calls.specs.Demand1.{TableFits}
+use Rattle.calls.specs.Demand3From.{Begins}
 use Rattle.soundness.specs.Checking.{isSoundIn}
 use Rattle.soundness.specs.InWords.{plainIn}
 use Rattle.soundness.specs.Soundness.{WordsOf, OfSomePlainBook}
@@ -116,3 +121,16 @@ pub record ListsCarried (old after : Words) : Type 0 where
 -- Statement: "after it the second is the four-word layout of the same lists".
 abbrev pub DoneCarriesTheLists : Type 0
 DoneCarriesTheLists = (old second : Words) (tickets : Tickets) → carryOf old second tickets .0 ≡ Done → ListsCarried old (carryOf old second tickets .1)
+
+-- What the calls share that go on from a book, with no shelf filled: one that was filled before keeps the old layout.
+abbrev pub goingOn : (book : Words) (tickets : Tickets) (ranks : Ranks) (store : Words) → Shared
+goingOn book tickets ranks store = record { book = book; tickets = tickets; ranks = ranks; store = store; filled = noneFilled }
+
+-- Statement: where a carry-over is done, a run may begin from the second book, with the plain book of the old words: with any table as the code has it in which no ticket stands, any
+-- accepted ranks and any store. So demand 3 holds from there (`Demand3From`).
+abbrev pub CarriedBooksGoOn : Type 0
+CarriedBooksGoOn =
+    (old second : Words) (tickets : Tickets) → carryOf old second tickets .0 ≡ Done
+    → (table : Tickets) → TableFits table → ticketStands table ≡ false
+    → (ranks : Ranks) → Accepted ranks
+    → (store : Words) → Begins (goingOn (carryOf old second tickets .1) table ranks store) (plainIn ThreeWords old)

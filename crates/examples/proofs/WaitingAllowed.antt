@@ -14,7 +14,7 @@ use Rattle.frames.specs.Numbers.{areBytes}
 use Rattle.calls.specs.Run.{Call, Run, run}
 use Rattle.calls.specs.Order.{notesOn, holdsWord, HeldBy}
 use Rattle.tickets.specs.Tickets.{ticketOf, hasTicket}
-use Rattle.calls.specs.Linearizable.{StandingRight, StandsAsNoted, Linearizable}
+use Rattle.calls.specs.Linearizable.{freshState, StandingRight, StandsAsNoted, Linearizable}
 use Rattle.calls.specs.Bench.{thatMeasure, firstLeg}
 use Rattle.calls.proofs.ExampleCalls.{everyRun, calls, heardAs}
 use Rattle.calls.proofs.Demand3.{demand3}
@@ -57,9 +57,9 @@ unfolding everyRun
 held-after team word =
     whoever (λ mine. holdsWord (notedBy (opened .heard) 1 mine) word ≡ true → holdsWord (notedBy (waiting .heard) 2 mine) word ≡ true) (λ held. held) (λ held. held) (eqb team 0)
 
-undecided : (team : ℕ) → StandingRight (notesOn (waiting .heard) .tickets team)
+undecided : (team : ℕ) → StandingRight freshState (notesOn (waiting .heard) .tickets team)
 unfolding everyRun
-undecided team = whoever (λ mine. StandingRight (notedBy (waiting .heard) 2 mine)) (inl (refl, refl)) tt (eqb team 0)
+undecided team = whoever (λ mine. StandingRight freshState (notedBy (waiting .heard) 2 mine)) (inl (refl, refl)) tt (eqb team 0)
 
 stands : (team : ℕ) → StandsAsNoted (hasTicket (ticketOf (waiting .end .tickets) team .phase)) (notesOn (waiting .heard) .tickets team)
 unfolding everyRun

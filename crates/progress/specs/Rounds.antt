@@ -13,7 +13,9 @@ use Rattle.frames.specs.Numbers.{Bytes}
 use Rattle.frames.specs.Request.{Step}
 use Rattle.frames.specs.Writing.{requestFrame}
 use Rattle.frames.specs.Answers.{longestAnswer}
+use Rattle.plain.specs.Plain.{Plain}
 use Rattle.calls.specs.Run.{Call, framed, Admitted, Shared, runFrom, run}
+use Rattle.calls.specs.Demand3From.{Begins}
 
 -- A team's turn in a round: a step, with an output of its own.
 pub record Turn : Type 0 where
@@ -95,6 +97,15 @@ EveryTicketGetsDone =
     → (rounds : List (List Turn)) → RoundsFrom (run store calls .end) rounds
     → 2 * targetsStanding (run store calls .end .tickets) ≤ length rounds
     → NoneStands (afterRounds (run store calls .end) rounds .tickets)
+
+-- Statement: so it is from wherever a run may begin.
+abbrev pub EveryTicketGetsDoneFrom : Type 0
+EveryTicketGetsDoneFrom =
+    (shared : Shared) (plain : Plain) → Begins shared plain
+    → (calls : List Call) → Every Admitted calls
+    → (rounds : List (List Turn)) → RoundsFrom (runFrom shared calls .end) rounds
+    → 2 * targetsStanding (runFrom shared calls .end .tickets) ≤ length rounds
+    → NoneStands (afterRounds (runFrom shared calls .end) rounds .tickets)
 
 -- Statement: "With no ticket it takes no round."
 abbrev pub NoTicketNoRound : Type 0

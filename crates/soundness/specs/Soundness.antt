@@ -12,9 +12,10 @@ use Rattle.words.specs.declared.LegLayout.the-variants.{FourWords}
 use Rattle.words.specs.Words.{Words, wordsInBook, lastLeg, measureWord, readOf}
 use Rattle.legs.specs.Legs.{compassUnit, clinoUnit, clinoOffset, isPlumb}
 use Rattle.plain.specs.Plain.{Plain, wordIn, SoundIn}
-use Rattle.calls.specs.Run.{Call, Admitted}
-use Rattle.calls.specs.Order.{HeldBy}
+use Rattle.calls.specs.Run.{Call, Admitted, Shared, runFrom}
+use Rattle.calls.specs.Order.{firstNotes, HeldBy, HeldFrom}
 use Rattle.calls.specs.Linearizable.{heardOn, bookAfter}
+use Rattle.calls.specs.Demand3From.{Begins}
 use Rattle.soundness.specs.declared.Checked.the-variants.{Yes, No}
 use Rattle.soundness.specs.Checking.{isSoundIn}
 use Rattle.soundness.specs.InWords.{plainIn}
@@ -63,3 +64,12 @@ UnheldBooksAreSound =
     (store : Words) (calls : List Call) → Every Admitted calls → NothingHeld store calls
     → (room : ℕ) → scratchBytes ≤ room
     → checkOf (bookAfter store calls) room ≡ Yes
+
+-- Statement: so it is from wherever a run may begin.
+abbrev pub UnheldBooksAreSoundFrom : Type 0
+UnheldBooksAreSoundFrom =
+    (shared : Shared) (plain : Plain) → Begins shared plain
+    → (calls : List Call) → Every Admitted calls
+    → ((team word : ℕ) → ¬ HeldFrom (firstNotes (shared .ranks)) (runFrom shared calls .heard) team word)
+    → (room : ℕ) → scratchBytes ≤ room
+    → checkOf (runFrom shared calls .end .book) room ≡ Yes

@@ -1,21 +1,20 @@
 -- The invariant holds at the start, and after a ticket is opened.
-use Prim.Native.Nat.{ℕ, _<_}
 use mathlib.Core.Path.{sym, ap, _∙_}
 use mathlib.Core.Bool.{true≢false}
 use mathlib.Core.Logic.{inl, inr}
 use native.Mathlib.Omega.{arith}
-use lib.ListN.{length, length-replicate, getD-replicate}
+use lib.ListN.{length}
 use Rattle.tickets.specs.Tickets.{hasTicket, claims}
 use Rattle.tickets.specs.Invariant.{FitTicket, HoldsAtStart, OpeningKeeps}
 use Rattle.tickets.proofs.TargetLists.{claimable-at}
 use Rattle.tickets.proofs.Keeping.{claims-well-made, same-held}
 
 pub holds-at-start : HoldsAtStart
-holds-at-start size tickets plain none zero-words = record {
+holds-at-start words tickets plain none same values = record {
   fit = λ team. inl (none team);
   held = λ team word value holds. absurd (true≢false (sym (holds .stands) ∙ ap hasTicket (none team)));
-  free = λ word inside small. let below : word < size = omega (arith, length-replicate {A = ℕ} size 0) in getD-replicate {A = ℕ} size word 0 0 below ∙ sym (zero-words word below);
-  owned = λ word inside large. let below : word < size = omega (arith, length-replicate {A = ℕ} size 0) in absurd (omega (arith, getD-replicate {A = ℕ} size word 0 0 below));
+  free = λ word inside small. same word inside;
+  owned = λ word inside large. absurd (omega (arith, large, same word inside, values word inside));
 }
 
 pub opening-keeps : OpeningKeeps

@@ -4,7 +4,7 @@ use mathlib.Core.Path.{_≡_}
 use mathlib.Core.Bool.{true, false, cond}
 use mathlib.Core.List.{map}
 use mathlib.Core.Logic.{_⊎_, _↔_}
-use lib.ListN.{length, replicate}
+use lib.ListN.{length}
 use lib.Dec.{eqb}
 use Rattle.words.specs.Words.{Words, wordsInBook, mostNamed, markOf, holderOf, readOf}
 use Rattle.tickets.specs.declared.Target.{Target}
@@ -105,12 +105,13 @@ PlainAlike = (words : Words) (tickets : ℕ → Ticket) (plain alike : ℕ → �
     → ((word : ℕ) → word < length words → alike word ≡ plain word)
     → Invariant words tickets alike
 
--- Statement: it holds at the start: zero words, no ticket, plain words of zero.
+-- Statement: it holds at a start: no ticket, and the words are the plain words, none of them a mark.
 abbrev pub HoldsAtStart : Type 0
-HoldsAtStart = (size : ℕ) (tickets : ℕ → Ticket) (plain : ℕ → ℕ)
+HoldsAtStart = (words : Words) (tickets : ℕ → Ticket) (plain : ℕ → ℕ)
     → ((team : ℕ) → tickets team .phase ≡ NoTicket)
-    → ((word : ℕ) → word < size → plain word ≡ 0)
-    → Invariant (replicate size 0) tickets plain
+    → ((word : ℕ) → word < length words → readOf words word ≡ plain word)
+    → ((word : ℕ) → word < length words → plain word < 2 ^ 63)
+    → Invariant words tickets plain
 
 -- A ticket as an edit or a view opens it: it claims targets that can be claimed, nothing claimed and nothing done.
 pub record OpenedTicket (size : ℕ) (ticket : Ticket) : Type 0 where
