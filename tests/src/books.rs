@@ -69,9 +69,14 @@ pub fn plain_in(book: &[Word], rows: &Rows, fault: Option<Fault>) -> Option<Plai
     sound.then_some(plain)
 }
 
+/// The plain book whose words these are, in four words a leg.
+pub fn lists_in(book: &[Word], fault: Option<Fault>) -> Option<Plain> {
+    plain_in(book, &ROWS, fault)
+}
+
 /// "yes exactly when the words are those of some plain book"
 pub fn sound(book: &[Word], fault: Option<Fault>) -> bool {
-    plain_in(book, &ROWS, fault).is_some()
+    lists_in(book, fault).is_some()
 }
 
 /// "Checks: 12, scratch too short, after 1." Below 126 bytes it applies now.
@@ -133,7 +138,7 @@ pub fn answered(input: &[u8], fault: Option<Fault>) -> Result<String, String> {
     Ok(lines)
 }
 
-fn words_of(book: &[Word]) -> Words {
+pub fn words_of(book: &[Word]) -> Words {
     let used = book.iter().enumerate().filter(|(_, word)| **word != Word::Value(0));
     used.map(|(word, value)| (word as i64, value.bits())).collect()
 }
@@ -223,6 +228,12 @@ fn faults() -> Vec<Case> {
     cases.push(with(&dealt, &[(count_word(0), share - 1), (count_word(1), share + 1)]));
     cases.extend([Words::new(), two].iter().flat_map(scratches));
     cases
+}
+
+/// The words of a whole book for each fault, and of some without.
+pub fn each_fault() -> Vec<Words> {
+    let whole = faults().into_iter().filter(|case| case.length == WORDS);
+    whole.map(|case| case.words).collect()
 }
 
 /// "the next newer leg, 0 for the newest", and "unused legs zero": each newer word of a book

@@ -23,6 +23,7 @@ use crate::frames::{framed, Field::*, Kind, Request};
 use crate::layout::*;
 use crate::lists::{in_hex, same};
 use crate::model::{Desk, Phase, Ticket, OUTPUT};
+use crate::records::record;
 use crate::tables::{self, Slot};
 use crate::wrong::{self, Fault};
 
@@ -56,29 +57,23 @@ impl Call {
 
     fn bytes(&self) -> Vec<u8> {
         match self {
-            Call::Title(text) => in_bytes([0, 0, 0, 0], format!("# {text}\n").as_bytes()),
-            Call::Fresh => in_bytes([1, 0, 0, 0], &[]),
-            Call::Word(word, value) => in_bytes([2, 0, 0, *word], &value.to_le_bytes()),
+            Call::Title(text) => record([0, 0, 0, 0], format!("# {text}\n").as_bytes()),
+            Call::Fresh => record([1, 0, 0, 0], &[]),
+            Call::Word(word, value) => record([2, 0, 0, *word], &value.to_le_bytes()),
             Call::Lend(team, slot) => {
                 let numbers = slot.numbers.iter().zip(tables::first_place(*team)..);
                 let numbers = numbers
-                    .flat_map(|(number, place)| in_bytes([4, 0, 0, place], &number.to_le_bytes()));
-                in_bytes([3, 0, 0, *team], &slot.bytes()).into_iter().chain(numbers).collect()
+                    .flat_map(|(number, place)| record([4, 0, 0, place], &number.to_le_bytes()));
+                record([3, 0, 0, *team], &slot.bytes()).into_iter().chain(numbers).collect()
             }
             Call::Frame { book, output, fill, frame } => {
-                in_bytes([5, *book, *output as i64, i64::from(*fill)], frame)
+                record([5, *book, *output as i64, i64::from(*fill)], frame)
             }
             Call::Read(place, measure) => {
-                in_bytes([6, 0, 0, 0], &[place.to_le_bytes(), measure.to_le_bytes()].concat())
+                record([6, 0, 0, 0], &[place.to_le_bytes(), measure.to_le_bytes()].concat())
             }
         }
     }
-}
-
-fn in_bytes(numbers: [i64; 4], carried: &[u8]) -> Vec<u8> {
-    let head = numbers.into_iter().chain([carried.len() as i64]);
-    let head = head.flat_map(|number| (number as u16).to_le_bytes());
-    head.chain(carried.iter().copied()).collect()
 }
 
 fn ticket_line(team: i64, ticket: &Ticket) -> String {

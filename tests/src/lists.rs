@@ -33,6 +33,7 @@ use crate::frames::parse;
 use crate::layout::{accepted, Word, PASSAGES, TEAMS, WORDS};
 use crate::model::{Desk, OUTPUT};
 use crate::ranks;
+use crate::records::{self, of_shorts, record, shorts, Record};
 use crate::shelves::{self, Lent, Shelves, SHELVES, STORE};
 use crate::streams::of_hex;
 use std::collections::{BTreeMap, BTreeSet};
@@ -87,11 +88,10 @@ impl Call {
             Call::Fill(lent, shelf) => ([2, lent.book, lent.store, *shelf], Vec::new()),
             Call::ComeBack(lent, shelf) => ([3, lent.book, lent.store, *shelf], Vec::new()),
             Call::Tell => ([4, 0, 0, 0], Vec::new()),
-            Call::Load { book, ranks } => ([5, *book, 0, ranks.len() as i64], in_bytes(ranks)),
-            Call::Lend(ranks) => ([6, 0, 0, ranks.len() as i64], in_bytes(ranks)),
+            Call::Load { book, ranks } => ([5, *book, 0, ranks.len() as i64], shorts(ranks)),
+            Call::Lend(ranks) => ([6, 0, 0, ranks.len() as i64], shorts(ranks)),
         };
-        let head = numbers.into_iter().chain([carried.len() as i64]);
-        [in_bytes(&head.collect::<Vec<i64>>()), carried].concat()
+        record(numbers, &carried)
     }
 
     /// How many lines a program writes for it.
@@ -104,23 +104,10 @@ impl Call {
     }
 }
 
-/// Numbers of 16 bits, low byte first.
-fn in_bytes(numbers: &[i64]) -> Vec<u8> {
-    numbers.iter().flat_map(|number| (*number as u16).to_le_bytes()).collect()
-}
-
-fn of_bytes(bytes: &[u8]) -> Vec<i64> {
-    bytes.chunks(2).map(|pair| i64::from(pair[0]) + 256 * i64::from(pair[1])).collect()
-}
-
-/// The first call of some bytes, and the bytes behind it.
-fn first_call(bytes: &[u8]) -> Option<(Call, &[u8])> {
-    let (head, rest) = bytes.split_at_checked(10)?;
-    let [tag, book, store, number, count] = of_bytes(head)[..] else { return None };
-    let (carried, rest) = rest.split_at_checked(count as usize)?;
+fn call_of(([tag, book, store, number], carried): Record) -> Option<Call> {
     let lent = Lent { book, store };
     let fits = book <= WORDS + 1 && store <= STORE + 1;
-    let counted = number <= MOST_RANKS as i64 && count == 2 * number;
+    let counted = number <= MOST_RANKS as i64 && carried.len() as i64 == 2 * number;
     let call = match tag {
         0 => Call::Begin(number),
         1 if number <= LONGEST_OUTPUT as i64 => {
@@ -129,21 +116,15 @@ fn first_call(bytes: &[u8]) -> Option<(Call, &[u8])> {
         2 => Call::Fill(lent, number),
         3 => Call::ComeBack(lent, number),
         4 => Call::Tell,
-        5 if counted => Call::Load { book, ranks: of_bytes(carried) },
-        6 if counted => Call::Lend(of_bytes(carried)),
+        5 if counted => Call::Load { book, ranks: of_shorts(carried) },
+        6 if counted => Call::Lend(of_shorts(carried)),
         _ => return None,
     };
-    fits.then_some((call, rest))
+    fits.then_some(call)
 }
 
-pub fn calls_of(mut input: &[u8]) -> Result<Vec<Call>, String> {
-    let mut calls = Vec::new();
-    while !input.is_empty() {
-        let (call, rest) = first_call(input).ok_or(format!("call {} is none", calls.len()))?;
-        calls.push(call);
-        input = rest;
-    }
-    Ok(calls)
+pub fn calls_of(input: &[u8]) -> Result<Vec<Call>, String> {
+    records::all(input, call_of)
 }
 
 /// 32 bits at a time, the low ones of a word first.

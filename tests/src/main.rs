@@ -12,9 +12,11 @@ mod layout;
 mod lent;
 mod lists;
 mod loads;
+mod meetings;
 mod mixed;
 mod model;
 mod ranks;
+mod records;
 mod rounds;
 mod serve;
 mod shelves;
@@ -37,6 +39,7 @@ const USAGE: &str = "usage:
   tests books DIR [--check]
   tests carried DIR [--check | --wrong FAULT]
   tests lists DIR [--check | --seed N | --wrong FAULT]
+  tests meetings DIR [--check | --wrong FAULT]
   tests serve [--wrong FAULT]";
 
 fn main() -> ExitCode {
@@ -66,18 +69,15 @@ fn run(words: &[&str]) -> Result<String, String> {
         ["lent", dir, "--check"] => check_lent(Path::new(dir)),
         ["books", dir] => store_books(Path::new(dir)),
         ["books", dir, "--check"] => check_books(Path::new(dir)),
-        ["carried", dir] => store_carried(Path::new(dir)),
-        ["carried", dir, "--check"] => check_carried(Path::new(dir)),
-        ["carried", dir, "--wrong", name] => {
-            let fault = carried::named(name).ok_or(USAGE)?;
-            wrong_carried(Path::new(dir), fault)
-        }
         ["lists", dir] => store_lists(Path::new(dir), 0),
         ["lists", dir, "--seed", number] => store_lists(Path::new(dir), 1_000 * parsed(number)?),
         ["lists", dir, "--check"] => check_lists(Path::new(dir)),
         ["lists", dir, "--wrong", name] => {
             let fault = lists::named(name).ok_or(USAGE)?;
             wrong_lists(Path::new(dir), fault)
+        }
+        [name, rest @ ..] if cases_of(name).is_some() => {
+            cases_of(name).expect("a program").run(rest)
         }
         ["serve"] => serve_as(None),
         ["serve", "--wrong", name] => serve_as(Some(wrong::named(name).ok_or(USAGE)?)),
@@ -184,31 +184,70 @@ fn check_books(dir: &Path) -> Result<String, String> {
     books::summary(&output)
 }
 
-/// Writes books to be carried over, and what the model says of each.
-fn store_carried(dir: &Path) -> Result<String, String> {
-    let input = carried::stored();
-    let failed = |error: std::io::Error| error.to_string();
-    fs::create_dir_all(dir).map_err(failed)?;
-    fs::write(dir.join("stdout"), carried::answered(&input, None)?).map_err(failed)?;
-    fs::write(dir.join("stdin"), &input).map_err(failed)?;
-    check_carried(dir)
+/// A program without frames: its stored cases, what the model or a program with a named fault
+/// says of some, and what must have come.
+struct Cases {
+    stored: fn() -> Vec<u8>,
+    answered: fn(&[u8], Option<&str>) -> Result<String, String>,
+    summary: fn(&str) -> Result<String, String>,
 }
 
-/// The stored cases and lines are the model's, and each answer that there is comes.
-fn check_carried(dir: &Path) -> Result<String, String> {
-    let (input, output) = read_lists(dir)?;
-    if input != carried::stored() {
-        return Err("stdin isn't that of the model's cases".to_string());
+fn cases_of(name: &str) -> Option<Cases> {
+    /// The fault of a name, and a complaint if there is none.
+    fn fault<F>(name: Option<&str>, named: fn(&str) -> Option<F>) -> Result<Option<F>, String> {
+        name.map(|name| named(name).ok_or(USAGE.to_string())).transpose()
     }
-    lists::same(&carried::answered(&input, None)?, &output)?;
-    carried::summary(&output)
+    match name {
+        "carried" => Some(Cases {
+            stored: carried::stored,
+            answered: |input, name| carried::answered(input, fault(name, carried::named)?),
+            summary: carried::summary,
+        }),
+        "meetings" => Some(Cases {
+            stored: meetings::stored,
+            answered: |input, name| meetings::answered(input, fault(name, meetings::named)?),
+            summary: meetings::summary,
+        }),
+        _ => None,
+    }
 }
 
-/// Complains of the first line that a wrong program has otherwise.
-fn wrong_carried(dir: &Path, fault: carried::Fault) -> Result<String, String> {
-    let (input, output) = read_lists(dir)?;
-    lists::same(&output, &carried::answered(&input, Some(fault))?)?;
-    Ok("the stored cases don't tell this fault".to_string())
+impl Cases {
+    fn run(&self, words: &[&str]) -> Result<String, String> {
+        match words {
+            [dir] => self.store(Path::new(dir)),
+            [dir, "--check"] => self.check(Path::new(dir)),
+            [dir, "--wrong", name] => self.wrong(Path::new(dir), name),
+            _ => Err(USAGE.to_string()),
+        }
+    }
+
+    /// Writes the cases, and what the model says of each.
+    fn store(&self, dir: &Path) -> Result<String, String> {
+        let input = (self.stored)();
+        let failed = |error: std::io::Error| error.to_string();
+        fs::create_dir_all(dir).map_err(failed)?;
+        fs::write(dir.join("stdout"), (self.answered)(&input, None)?).map_err(failed)?;
+        fs::write(dir.join("stdin"), &input).map_err(failed)?;
+        self.check(dir)
+    }
+
+    /// The stored cases and lines are the model's, and each answer that there is comes.
+    fn check(&self, dir: &Path) -> Result<String, String> {
+        let (input, output) = read_lists(dir)?;
+        if input != (self.stored)() {
+            return Err("stdin isn't that of the model's cases".to_string());
+        }
+        lists::same(&(self.answered)(&input, None)?, &output)?;
+        (self.summary)(&output)
+    }
+
+    /// Complains of the first line that a wrong program has otherwise.
+    fn wrong(&self, dir: &Path, name: &str) -> Result<String, String> {
+        let (input, output) = read_lists(dir)?;
+        lists::same(&output, &(self.answered)(&input, Some(name))?)?;
+        Ok("the stored cases don't tell this fault".to_string())
+    }
 }
 
 /// Writes a mixed list of calls, and what the model says of each.

@@ -144,6 +144,23 @@ fn the_stored_carry_overs_are_checked() {
 }
 
 #[test]
+fn the_stored_meetings_are_checked() {
+    let dir = folder("meetings");
+    let name = dir.to_str().expect("a readable name");
+    assert!(tests(&["meetings", name]).status.success());
+    let wrong = tests(&["meetings", name, "--wrong", "writes-before-21"]);
+    assert!(!wrong.status.success() && said(&wrong).contains("program: refused 21 spoiled"));
+    assert!(said(&tests(&["meetings", name, "--wrong", "no-such-fault"])).contains("usage"));
+    let output = std::fs::read_to_string(dir.join("stdout")).expect("stored");
+    std::fs::write(dir.join("stdout"), output.replacen("refused 21", "refused 15", 1))
+        .expect("written");
+    let checked = tests(&["meetings", name, "--check"]);
+    assert!(!checked.status.success() && said(&checked).contains("model:   refused 21"));
+    std::fs::write(dir.join("stdout"), output).expect("written");
+    assert!(tests(&["meetings", name, "--check"]).status.success());
+}
+
+#[test]
 fn the_stored_lists_are_checked() {
     let dir = folder("lists");
     let name = dir.to_str().expect("a readable name");

@@ -203,4 +203,6 @@ impl Refusal {
     pub const STORE: u16 = 19;
 
     pub const SHELF: u16 = 20;
+
+    pub const LIST: u16 = 21;
 }

@@ -1,0 +1,3 @@
+pub mod Continuing
+pub mod Legs
+pub mod Pairing
