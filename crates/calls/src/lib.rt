@@ -3,21 +3,21 @@
 use tickets::Tickets;
 
 // What the call returns: the bytes written (1, 13 or 2 for those refusals), and the tickets.
-#[derive(Drop)]
+#[derive(Clone, Copy)]
 pub struct Reply {
     pub written: usize,
     pub tickets: Tickets,
 }
 
 // What a call without a frame comes to: it went, or is refused by a number.
-#[derive(Drop)]
+#[derive(Clone, Copy)]
 pub enum Outcome {
     Done,
     Refused(u16),
 }
 
 // Where a frame goes: back, refused; to a look; or to a team, with its kind.
-#[derive(Drop)]
+#[derive(Clone, Copy)]
 pub enum Aim {
     Refused(u16),
     Look,
@@ -26,7 +26,7 @@ pub enum Aim {
 
 // Why a stream stopped: the rest is no whole frame yet; there is no room for an answer; a length field is too
 // large; the book has another length; the ranks are not each of 0 to 31.
-#[derive(Drop)]
+#[derive(Clone, Copy)]
 pub enum Stop {
     MoreInput,
     OutputFull,
@@ -36,7 +36,7 @@ pub enum Stop {
 }
 
 // What a stream returns: the tickets, the bytes consumed and written, and why it stopped.
-#[derive(Drop)]
+#[derive(Clone, Copy)]
 pub struct Streamed {
     pub tickets: Tickets,
     pub consumed: usize,
@@ -45,7 +45,7 @@ pub struct Streamed {
 }
 
 // The bytes of the next frame, or why there is none.
-#[derive(Drop)]
+#[derive(Clone, Copy)]
 pub enum Next {
     Frame(usize),
     End(Stop),

@@ -12,7 +12,7 @@ use frames::{Answer, Frame, Header, Kind, Refusal};
 use words::Limits;
 
 // What stands at a place of the input: a team's step, another whole frame of so many bytes, or nothing to be answered.
-#[derive(Drop)]
+#[derive(Clone, Copy)]
 pub enum Ahead {
     End(Stop),
     Step(u16),

@@ -8,7 +8,7 @@ use words::Limits;
 pub mod numbers; // numbers in bytes, read and put
 pub mod head; // refusals 3 to 5, and the part after the kind
 
-#[derive(Drop)]
+#[derive(Clone, Copy)]
 pub enum Answer {
     Standing(u16),
     Step(StepAnswer),
@@ -17,39 +17,39 @@ pub enum Answer {
 }
 
 // The kind of a whole frame, or the number of the refusal.
-#[derive(Drop)]
+#[derive(Clone, Copy)]
 pub enum Header {
     Kind(u16),
     Refused(u16),
 }
 
 // A field's answer: of 16 bits, of 32, signed, and of the fields that make a measure.
-#[derive(Drop)]
+#[derive(Clone, Copy)]
 pub enum Field {
     InRange(u16),
     OutOfRange,
 }
 
-#[derive(Drop)]
+#[derive(Clone, Copy)]
 pub enum LongField {
     InRange(u32),
     OutOfRange,
 }
 
-#[derive(Drop)]
+#[derive(Clone, Copy)]
 pub enum SignedField {
     InRange(i16),
     OutOfRange,
 }
 
-#[derive(Drop)]
+#[derive(Clone, Copy)]
 pub enum MeasureField {
     InRange(Measure),
     OutOfRange,
 }
 
 // Of a leg that is taken out of its passage's list: the next newer leg, itself, the next older, and the count of legs.
-#[derive(Drop)]
+#[derive(Clone, Copy)]
 pub struct Taken {
     pub newer: u16,
     pub leg: u16,
@@ -57,28 +57,28 @@ pub struct Taken {
     pub count: u16,
 }
 
-#[derive(Drop)]
+#[derive(Clone, Copy)]
 pub enum TakenField {
     InRange(Taken),
     OutOfRange,
 }
 
 // The edit that a frame's fields are, or the number of the refusal.
-#[derive(Drop)]
+#[derive(Clone, Copy)]
 pub enum EditRead {
     Is(Edit),
     Refused(u16),
 }
 
 // Whether a frame's fields are a view, or the number of the refusal,
-#[derive(Drop)]
+#[derive(Clone, Copy)]
 pub enum Reading {
     Is,
     Refused(u16),
 }
 
 // and the view beside it, which holds an array; a refused one names no words.
-#[derive(Drop)]
+#[derive(Clone, Copy)]
 pub struct ViewRead {
     pub reading: Reading,
     pub view: View,

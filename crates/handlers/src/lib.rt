@@ -26,7 +26,7 @@ use tickets::{Ticket, Tickets};
 use words::Limits;
 
 // What an edit or a view that asks for a ticket leaves: whether it opens one, that ticket, and the place behind the answer.
-#[derive(Drop)]
+#[derive(Clone, Copy)]
 pub struct Opened {
     pub opens: bool,
     pub ticket: Ticket,

@@ -13,7 +13,7 @@ use tickets::{Kind, SwapTried, Ticket, Tickets};
 
 // What came of the next swap of an edit on the fast way: whether it was a claim, what it found, and whether it went through.
 // One that did not was a claim that missed, or none was tried.
-#[derive(Drop)]
+#[derive(Clone, Copy)]
 pub struct Tried {
     pub claims: bool,
     pub found: u64,

@@ -10,7 +10,7 @@ use tickets::{Target, Ticket, Tickets};
 use words::Limits;
 
 // What a step leaves: its ticket, and the place behind its answer.
-#[derive(Drop)]
+#[derive(Clone, Copy)]
 pub struct Left {
     pub ticket: Ticket,
     pub filled: usize,

@@ -16,7 +16,7 @@ use tickets::Tickets;
 
 // What came of one read: the tickets, how many bytes of a frame not yet whole stand at the front, how many bytes to
 // write, and whether to go on.
-#[derive(Drop)]
+#[derive(Clone, Copy)]
 pub struct Served {
     pub tickets: Tickets,
     pub have: usize,

@@ -10,7 +10,7 @@ use legs::{from_in, to_in};
 use words::{Limits, count_word, link_word, newest_word, place_word};
 
 // How much there is to list: the legs, the passages that have one there, and their pairs.
-#[derive(Drop)]
+#[derive(Clone, Copy)]
 pub struct Size {
     pub legs: usize,
     pub passages: usize,

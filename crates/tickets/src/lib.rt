@@ -1,4 +1,6 @@
 // A team's ticket by value, and the table of tickets: a small ticket for each team, and the targets of all in one array.
+#![tactic(auto)]
+
 ghost use Rattle.std.specs.Prelude.{◌≡◌, false, List, ℕ, ◌+◌, ◌*◌, ◌≤◌, ◌<◌};
 ghost use Rattle.words.specs.Words.{team_count};
 ghost use Rattle.tickets.specs.Tickets.{fresh_tickets};
@@ -9,7 +11,7 @@ ghost use Rattle.tickets.specs.Table.{target_room, place_of, no_slot, opened_slo
 use words::Limits;
 
 // A word, the value that the edit quotes for it (in the source document: expected) and its new value (desired).
-#[derive(Drop)]
+#[derive(Clone, Copy)]
 pub struct Target {
     pub word: u16,
     pub quoted: u64,
@@ -18,7 +20,7 @@ pub struct Target {
 
 // The phase of a ticket; "no ticket" is that of an empty slot. An edit is claiming, then putting or giving back; a view (in
 // the literature: an atomic multi-word read, or snapshot) claims, then gives back. A view that is putting can't be written.
-#[derive(Drop)]
+#[derive(Clone, Copy)]
 pub enum Phase {
     NoTicket,
     Claiming,
@@ -29,7 +31,7 @@ pub enum Phase {
 }
 
 // Whose ticket it is: an edit's, that of an edit found stale, which gives back, or a view's.
-#[derive(Drop)]
+#[derive(Clone, Copy)]
 pub enum Kind {
     Edit,
     Stale,
@@ -39,7 +41,7 @@ pub enum Kind {
 // A ticket (in the source document: a multi-word compare-and-swap descriptor) in its team's slot: how many targets it has,
 // how many are claimed, how many are done, and its tries. Its phase follows from these. It is small, so that it goes by value
 // at no cost; its targets stand in the table.
-#[derive(Drop)]
+#[derive(Clone, Copy)]
 pub struct Ticket {
     pub tries: u32,
     pub n: u16,
@@ -58,14 +60,14 @@ pub struct Tickets {
 }
 
 // The conditional swap that a step tries.
-#[derive(Drop)]
+#[derive(Clone, Copy)]
 pub struct SwapTried {
     pub word: u16,
     pub expected: u64,
     pub desired: u64,
 }
 
-#[derive(Drop)]
+#[derive(Clone, Copy)]
 pub enum StepAnswer {
     Claimed(u16),
     Waiting(u16, u16),
@@ -79,7 +81,7 @@ pub enum StepAnswer {
 
 // What a view has seen: the values of its n words, in the order named; room not used is zeros. One field each: an answer
 // is an enum, which can't hold an array.
-#[derive(Drop)]
+#[derive(Clone, Copy)]
 pub struct Values {
     pub n: u16,
     pub first: u64,
@@ -90,7 +92,7 @@ pub struct Values {
     pub sixth: u64,
 }
 
-#[derive(Drop)]
+#[derive(Clone, Copy)]
 pub enum LookAnswer {
     Held,
     Value(u64),

@@ -1,4 +1,6 @@
 // The words of the book: limits, the layout, marks, the conditional swap and the read.
+#![tactic(auto)]
+
 ghost use Rattle.std.specs.Prelude.{◌≡◌, Bool, true, ◌≤◌, ◌<◌, length, take, drop};
 ghost use Rattle.words.specs.Tests.{occurs, distinct};
 ghost use Rattle.words.specs.Words.{team_count, most_named, passage_count, last_leg_in, last_leg, is_held, mark_of, holder_of, newest_word, count_word, link_word_in, link_word, place_word, measure_word, newer_word, read_of, swap_of, any_value};
@@ -8,7 +10,7 @@ ghost use Rattle.words.specs.Words.{team_count, most_named, passage_count, last_
 pub struct Limits {}
 
 // What a conditional swap reports: the word that it found, and who holds it.
-#[derive(Drop)]
+#[derive(Clone, Copy)]
 pub struct Report {
     pub found: u64,
     pub holder: u16,
@@ -53,7 +55,7 @@ impl Limits {
 }
 
 // How many words a leg has: three in books from before chains ran both ways, four since.
-#[derive(Drop)]
+#[derive(Clone, Copy)]
 pub enum LegLayout {
     ThreeWords,
     FourWords,
