@@ -63,7 +63,7 @@ begins_good shared plain begins = record {
   heard_ranks = refl;
   under = λ team. tt;
   ordered = begins_ordered plain begins.sound;
-  shelved = record { flags = ap length begins.none_filled_lem; tied = flags; heard = flags };
+  shelved = record { flags = ap length begins.no_shelf_filled; tied = flags; heard = flags };
   places = λ team. tt;
   ends = tt;
   tries = tt;
@@ -74,7 +74,7 @@ begins_good shared plain begins = record {
     empty = no_ticket_lem shared.tickets begins.fits.teams begins.none_stands
 
     flags : (shelf : ℕ) → is_filled shared.filled shelf ≡ false
-    flags shelf = ap (λ filled. is_filled filled shelf) begins.none_filled_lem ∙ fresh_flags shelf
+    flags shelf = ap (λ filled. is_filled filled shelf) begins.no_shelf_filled ∙ fresh_flags shelf
 
 -- A fresh book is a start.
 pub fresh_begins : (store : Words) → Begins (fresh store) fresh_plain
@@ -86,7 +86,7 @@ fresh_begins store = record {
   sound = fresh_is_sound;
   words = λ word inside. get_or-replicate {A = ℕ} words_in_book word 0 0 inside ∙ sym (fresh_words word);
   ranked = fixed_ranks_are_permutation;
-  none_filled_lem = refl;
+  no_shelf_filled = refl;
 }
 
 pub fresh_good : (store : Words) → Good fresh_state (fresh store) no_notes
@@ -212,16 +212,16 @@ was_filled_lem plain events shelf kept = by (was_filled shelf events) refl
 -- and keeps the plain book of its last filling.
 kept_since : (start : PlainState) (before after : List Event) (shelf : ℕ) → was_filled shelf after ≡ false → (play_from start (map deed_of (before ++ (filled shelf ∷ after)))).shelves shelf ≡ some (plain_from start before)
 unfolding play_from
-kept_since start before after shelf none_filled_lem =
+kept_since start before after shelf no_shelf_filled =
     ap (λ state. state.shelves shelf) (play_both start before (filled shelf ∷ after))
-    ∙ unfilled (feed (play_from start (map deed_of before)) (deed_of (filled shelf))) after shelf none_filled_lem
+    ∙ unfilled (feed (play_from start (map deed_of before)) (deed_of (filled shelf))) after shelf no_shelf_filled
     ∙ ap (λ b. cond b (some (plain_from start before)) ((play_from start (map deed_of before)).shelves shelf)) (eq-eqb shelf shelf refl)
 
 returned : (start : PlainState) (before between : List Event) (shelf : ℕ) → was_filled shelf between ≡ false → plain_from start (before ++ (filled shelf ∷ (between ++ (came_back shelf ∷ [])))) ≡ plain_from start before
-returned start before between shelf none_filled_lem =
+returned start before between shelf no_shelf_filled =
     ap (λ l. plain_from start l) (sym (append_both before (filled shelf ∷ between) (came_back shelf ∷ [])))
     ∙ ap (λ state. state.book) (play_last start (before ++ (filled shelf ∷ between)) (came_back shelf))
-    ∙ ap (kept_or (plain_from start (before ++ (filled shelf ∷ between)))) (kept_since start before between shelf none_filled_lem)
+    ∙ ap (kept_or (plain_from start (before ++ (filled shelf ∷ between)))) (kept_since start before between shelf no_shelf_filled)
 
 shelf_agrees : (store : Words) (flag : Bool) (shelf : ℕ) (kept : Option Plain) (plain : Plain) → kept ≡ some plain → ShelfTied store flag shelf kept
     → (word : ℕ) → word < words_in_book → read_of (shelf_of store shelf) word ≡ word_of plain word
@@ -243,11 +243,11 @@ demand3_from begin plain begins calls bytes =
       words_agree = λ word inside unheld. unheld_agrees shared n good word inside unheld ∙ ap (λ state. word_of state.book word) (sym (play_finished start n.order));
       last_answers = good.ends;
       decided_once = λ team. standing_right start (ticket_of shared.tickets team) (n.tickets team) (good.tied team);
-      comes_back = λ before between after shelf is none_filled_lem. returned start before between shelf none_filled_lem;
+      comes_back = λ before between after shelf is no_shelf_filled. returned start before between shelf no_shelf_filled;
       backs_filled = λ before after shelf is. was_filled_lem plain before shelf (right_at start before after (came_back shelf) (subst (RightFrom start) is ordered.right));
-      shelves_agree = λ before after shelf word is none_filled_lem inside.
+      shelves_agree = λ before after shelf word is no_shelf_filled inside.
           shelf_agrees shared.store (is_filled shared.filled shelf) shelf ((played start n.order).shelves shelf) (plain_from start before)
-          (ap (λ state. state.shelves shelf) (sym (play_finished start n.order)) ∙ ap (λ l. (play_from start (map deed_of l)).shelves shelf) is ∙ kept_since start before after shelf none_filled_lem)
+          (ap (λ state. state.shelves shelf) (sym (play_finished start n.order)) ∙ ap (λ l. (play_from start (map deed_of l)).shelves shelf) is ∙ kept_since start before after shelf no_shelf_filled)
           (good.shelved.tied shelf) word inside;
       filled_heard = λ shelf. good.shelved.heard shelf ∙ sym (filled_finished shelf n.order);
       counts_add_up = ordered.counts;

@@ -11,7 +11,7 @@ use Rattle.tickets.specs.Tickets.{Ticket, no_ticket, ticket_of, target_at, targe
 use Rattle.tickets.specs.declared.StepAnswer.TheVariants.{Claimed, Waiting, Found, Put, Returned, Granted, Stale}
 use Rattle.tickets.specs.Steps.{one_more_try, advanced}
 use Rattle.tickets.specs.Targets.{AllMatch, PutInto}
-use Rattle.tickets.specs.Invariant.{StepKept, claimed_one_lem, claimed_last, waiting, found_other, stale_at_once, put_one, put_last, returned_one, returned_last, viewed_one, viewed_last, view_waiting, view_returned_one, view_returned_last}
+use Rattle.tickets.specs.Invariant.{StepKept, one_claimed, claimed_last, waiting, found_other, stale_at_once, put_one, put_last, returned_one, returned_last, viewed_one, viewed_last, view_waiting, view_returned_one, view_returned_last}
 use Rattle.tickets.proofs.TargetLists.{targets_advanced, match_at}
 use Rattle.tickets.proofs.Keeping.{claiming_counts}
 use Rattle.edits.specs.declared.Edit.{Edit}
@@ -207,7 +207,7 @@ module _ {start : PlainState} (edit : Edit) (heard : Noted) (turn : Turn start (
         → Kept turn
     step_puts_last last left =
         let d = heard_putting.decided in
-        let all = (fit turn).all_claimed_lem putting in
+        let all = (fit turn).all_were_claimed putting in
         let count = known_count known in
         ends_as turn n.order (ended_by edited (was_granted (one_more_try ticket.tries))) left refl
         (order_stays good.ordered tt)
@@ -253,7 +253,7 @@ module _ {start : PlainState} (edit : Edit) (heard : Noted) (turn : Turn start (
         (spent turn, tt)
 
   pub edit_kept : StepKept turn.shared.book (ticket_of turn.shared.tickets) plain team ticket → Kept turn
-  edit_kept (claimed_one_lem claiming more left) = step_claims claiming more left
+  edit_kept (one_claimed claiming more left) = step_claims claiming more left
   edit_kept (claimed_last claiming last matches left) = step_claims_last claiming last matches left
   edit_kept (waiting claiming holder other left) = step_waits claiming _ left
   edit_kept (found_other claiming some_claimed differs left) = step_finds claiming differs left

@@ -55,7 +55,7 @@ pub fillings_have_no_place : FillingsHaveNoPlace
 fillings_have_no_place events = idle_alike events fresh_state fresh_state (refl, λ shelf later. refl)
 
 pub counts_since_coming_back : CountsSinceComingBack
-counts_since_coming_back store calls admitted before between after shelf is none_filled_lem none_back =
+counts_since_coming_back store calls admitted before between after shelf is no_shelf_filled none_back =
     let right = demand3 store calls admitted in
     let events = order_of store calls in
     let until_then = before ++ (filled shelf ∷ between) in
@@ -66,5 +66,5 @@ counts_since_coming_back store calls admitted before between after shelf is none
     ap (λ (later : List Event). legs_in_book (plain_after store calls) + granted_of strikes_in later) (sym since)
     ∙ right.counts_add_up
     ∙ ap (λ (kept : List Event). legs_in_book (play kept) + granted_of adds_in (since_back events)) until
-    ∙ ap (λ (kept : Plain). legs_in_book kept + granted_of adds_in (since_back events)) (right.comes_back before between after shelf is none_filled_lem)
+    ∙ ap (λ (kept : Plain). legs_in_book kept + granted_of adds_in (since_back events)) (right.comes_back before between after shelf is no_shelf_filled)
     ∙ ap (λ (later : List Event). legs_in_book (play before) + granted_of adds_in later) since

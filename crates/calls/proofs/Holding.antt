@@ -11,7 +11,7 @@ use Rattle.tickets.specs.declared.StepAnswer.{StepAnswer}
 use Rattle.tickets.specs.declared.StepAnswer.TheVariants.{Claimed, Waiting, Found, Put, Returned, Granted, Stale, Seen}
 use Rattle.tickets.specs.declared.Values.{Values}
 use Rattle.tickets.specs.Steps.{step_of}
-use Rattle.tickets.specs.Invariant.{Holder, FitTicket, Leaves, StepKept, claimed_one_lem, claimed_last, waiting, found_other, stale_at_once, put_one, put_last, returned_one, returned_last, viewed_one, viewed_last, view_waiting, view_returned_one, view_returned_last}
+use Rattle.tickets.specs.Invariant.{Holder, FitTicket, Leaves, StepKept, one_claimed, claimed_last, waiting, found_other, stale_at_once, put_one, put_last, returned_one, returned_last, viewed_one, viewed_last, view_waiting, view_returned_one, view_returned_last}
 use Rattle.tickets.proofs.Keeping.{standing_fit}
 use Rattle.tickets.proofs.Putting.{all_put, all_put_lem}
 use Rattle.tickets.proofs.Stepping.{step_keeps}
@@ -91,7 +91,7 @@ module _ {start : PlainState} (shared : Shared) (n : Notes) (table : TableFits s
     told left = sym (λ i. (left.is i).answer) ∙ answered
 
     by_step : StepKept shared.book (ticket_of shared.tickets) plain waiter ticket → Names
-    by_step (claimed_one_lem claiming more left) = is_claimed _ (told left)
+    by_step (one_claimed claiming more left) = is_claimed _ (told left)
     by_step (claimed_last claiming last matches left) = is_claimed _ (told (left (all_put (targets_in ticket) plain) (all_put_lem (targets_in ticket) plain fit.claimable.once)))
     by_step (waiting claiming holder other left) = names holder other (told left)
     by_step (found_other claiming some_claimed differs left) = is_found _ (told left)

@@ -78,10 +78,10 @@ no_angles team (Edit.Move e) = refl
 pub minutes_behave : MinutesBehave
 minutes_behave frame kind team edit bytes header angles asks =
     let (torn, unknown, wrong, is) = kind_tests frame kind header in
-    let in_range_lem = ap (λ (k : ℕ). angles_of_kind k (part_after_kind frame)) is ∙ angles in
-    let sent : angle_out_of_range frame ≡ false = ap not in_range_lem in
+    let each_in_range = ap (λ (k : ℕ). angles_of_kind k (part_after_kind frame)) is ∙ angles in
+    let sent : angle_out_of_range frame ≡ false = ap not each_in_range in
     behave_alike frame (request_frame (Open team edit)) kind _ header (request_frames_whole (Open team edit) refl)
-    (sent ∙ sym (no_angles team edit)) (asks ∙ sym (requests_read_back (Open team edit) (edits_read_fit frame team edit bytes in_range_lem asks)))
+    (sent ∙ sym (no_angles team edit)) (asks ∙ sym (requests_read_back (Open team edit) (edits_read_fit frame team edit bytes each_in_range asks)))
 
 pub minutes_frames_behave : MinutesFramesBehave
 minutes_frames_behave team edit fits angles =
@@ -89,8 +89,8 @@ minutes_frames_behave team edit fits angles =
     let header = minutes_frames_whole team edit in
     let (torn, unknown, wrong, is) = kind_tests frame (minutes_kind edit) header in
     let (asks, tested) = minutes_read_back team edit fits in
-    let in_range_lem = ap (λ (k : ℕ). angles_of_kind k (part_after_kind frame)) (sym is) ∙ tested ∙ angles in
-    minutes_behave frame (minutes_kind edit) team (rounded_edit edit) (minutes_frames_are_bytes team edit) header in_range_lem asks
+    let each_in_range = ap (λ (k : ℕ). angles_of_kind k (part_after_kind frame)) (sym is) ∙ tested ∙ angles in
+    minutes_behave frame (minutes_kind edit) team (rounded_edit edit) (minutes_frames_are_bytes team edit) header each_in_range asks
 
 -- Two calls that are alike leave the same and are answered alike.
 left_alike : (shared : Shared) (twins : Twins) → left_by shared (one_of twins) ≡ left_by shared (other_of twins)

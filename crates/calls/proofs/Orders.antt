@@ -305,13 +305,13 @@ play_both plain (event ∷ before) after = play_both (feed plain (deed_of event)
 -- Where a shelf is not filled, what it keeps stays.
 pub unfilled : (plain : PlainState) (events : List Event) (shelf : ℕ) → was_filled shelf events ≡ false → (play_from plain (map deed_of events)).shelves shelf ≡ plain.shelves shelf
 unfolding play_from was_filled
-unfilled plain [] shelf none_filled_lem = refl
-unfilled plain (decided verdict edit ∷ events) shelf none_filled_lem = unfilled (feed plain (deed_of (decided verdict edit))) events shelf none_filled_lem
-unfilled plain (looked word value ∷ events) shelf none_filled_lem = unfilled plain events shelf none_filled_lem
-unfilled plain (seen words values ∷ events) shelf none_filled_lem = unfilled plain events shelf none_filled_lem
-unfilled plain (reserved team ∷ events) shelf none_filled_lem = unfilled plain events shelf none_filled_lem
-unfilled plain (filled other ∷ events) shelf none_filled_lem =
-    unfilled (feed plain (deed_of (filled other))) events shelf (later (eqb shelf other) none_filled_lem) ∙ ap (λ b. cond b (some plain.book) (plain.shelves shelf)) (first (eqb shelf other) refl none_filled_lem)
+unfilled plain [] shelf no_shelf_filled = refl
+unfilled plain (decided verdict edit ∷ events) shelf no_shelf_filled = unfilled (feed plain (deed_of (decided verdict edit))) events shelf no_shelf_filled
+unfilled plain (looked word value ∷ events) shelf no_shelf_filled = unfilled plain events shelf no_shelf_filled
+unfilled plain (seen words values ∷ events) shelf no_shelf_filled = unfilled plain events shelf no_shelf_filled
+unfilled plain (reserved team ∷ events) shelf no_shelf_filled = unfilled plain events shelf no_shelf_filled
+unfilled plain (filled other ∷ events) shelf no_shelf_filled =
+    unfilled (feed plain (deed_of (filled other))) events shelf (later (eqb shelf other) no_shelf_filled) ∙ ap (λ b. cond b (some plain.book) (plain.shelves shelf)) (first (eqb shelf other) refl no_shelf_filled)
   where
     later : (b : Bool) → cond b true (was_filled shelf events) ≡ false → was_filled shelf events ≡ false
     later true e = absurd (false≢true (sym e))
@@ -320,7 +320,7 @@ unfilled plain (filled other ∷ events) shelf none_filled_lem =
     first : (b : Bool) → eqb shelf other ≡ b → cond b true (was_filled shelf events) ≡ false → eqb shelf other ≡ false
     first true is e = absurd (false≢true (sym e))
     first false is e = is
-unfilled plain (came_back other ∷ events) shelf none_filled_lem = unfilled (feed plain (deed_of (came_back other))) events shelf none_filled_lem
+unfilled plain (came_back other ∷ events) shelf no_shelf_filled = unfilled (feed plain (deed_of (came_back other))) events shelf no_shelf_filled
 
 -- A team has reserved the place after so many events of an order, and the plain book there is this one.
 abbrev pub PlaceAt : ℕ → PlainState → List Event → ℕ → Plain → Type 0

@@ -23,7 +23,7 @@ use Rattle.calls.proofs.Ordered.{Fine}
 -- An edit that neither 10 nor 11 refuses is allowed.
 allowed : (edit : Edit) → edit_in_range edit ≡ true → edit_repeats edit ≡ false → edit_allowed edit ≡ true
 unfolding all_hold
-allowed edit in_range_lem once = rw (in_range_lem, once) refl
+allowed edit each_in_range once = rw (each_in_range, once) refl
 
 -- Its team is one of the sixteen, has no ticket or has one as asked for, its edit or its view is fine, its word is one of the book's.
 abbrev pub Passes : Tickets → Request → Type 0
@@ -36,13 +36,13 @@ module _ (words : Words) (tickets : Tickets) (ranks : Ranks) (frame out : Bytes)
   pub passes : refusal_of words tickets ranks frame out ≡ none → Passes tickets (request_in frame)
   passes none_given =
       let known = passed words tickets ranks frame out none_given in
-      of_request (request_in frame) refl known.known_team known.opens_alone known.step_allowed known.in_range_lem known.named_once (request_sized known)
+      of_request (request_in frame) refl known.known_team known.opens_alone known.step_allowed known.each_in_range known.named_once (request_sized known)
     where
       of_request : (request : Request) → request_in frame ≡ request → team_unknown request ≡ false → opens_over_ticket tickets request ≡ false
           → step_without_ticket tickets request ≡ false → request_out_of_range request ≡ false → field_repeated request ≡ false → Sized request → Passes tickets request
-      of_request (Open team edit) is known no_ticket_lem ticket in_range_lem once sized =
-          (ltb-true team team_count (not-false _ known), no_ticket_lem, record { allowed = allowed edit (not-false _ in_range_lem) once; stations = stations_fit frame team edit bytes is })
-      of_request (Step team) is known no_ticket_lem ticket in_range_lem once sized = (ltb-true team team_count (not-false _ known), not-false _ ticket)
-      of_request (Look word) is known no_ticket_lem ticket in_range_lem once sized = ltb-true word words_in_book (not-false _ in_range_lem)
-      of_request (View team n named) is known no_ticket_lem ticket in_range_lem once sized =
-          (ltb-true team team_count (not-false _ known), no_ticket_lem, fine_view n named sized (not-false _ in_range_lem) once)
+      of_request (Open team edit) is known no_ticket_lem ticket each_in_range once sized =
+          (ltb-true team team_count (not-false _ known), no_ticket_lem, record { allowed = allowed edit (not-false _ each_in_range) once; stations = stations_fit frame team edit bytes is })
+      of_request (Step team) is known no_ticket_lem ticket each_in_range once sized = (ltb-true team team_count (not-false _ known), not-false _ ticket)
+      of_request (Look word) is known no_ticket_lem ticket each_in_range once sized = ltb-true word words_in_book (not-false _ each_in_range)
+      of_request (View team n named) is known no_ticket_lem ticket each_in_range once sized =
+          (ltb-true team team_count (not-false _ known), no_ticket_lem, fine_view n named sized (not-false _ each_in_range) once)

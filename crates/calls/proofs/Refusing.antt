@@ -105,7 +105,7 @@ pub record Passed (words : Words) (tickets : Tickets) (ranks : Ranks) (frame out
   pub well_made_lem : own_ticket_badly_made tickets (request_in frame) ≡ false
   pub opens_alone : opens_over_ticket tickets (request_in frame) ≡ false
   pub step_allowed : step_without_ticket tickets (request_in frame) ≡ false
-  pub in_range_lem : request_out_of_range (request_in frame) ≡ false
+  pub each_in_range : request_out_of_range (request_in frame) ≡ false
   pub named_once : field_repeated (request_in frame) ≡ false
 
 pub passed : (words : Words) (tickets : Tickets) (ranks : Ranks) (frame out : Bytes) → refusal_of words tickets ranks frame out ≡ none → Passed words tickets ranks frame out
@@ -123,7 +123,7 @@ passed words tickets ranks frame out none_given =
       well_made_lem = cc;
       opens_alone = cc;
       step_allowed = cc;
-      in_range_lem = second_fails (angle_out_of_range frame) (request_out_of_range (request_in frame)) ten;
+      each_in_range = second_fails (angle_out_of_range frame) (request_out_of_range (request_in frame)) ten;
       named_once = cc;
     }
 
@@ -176,8 +176,8 @@ request_sized {frame = frame} known = kind_sized (kind_field frame) (part_after_
 -- A view that neither 5, 10 nor 11 refuses is fine.
 pub fine_view : (n : ℕ) (words : List ℕ) → OneToSix words → view_in_range n words ≡ true → view_repeats words ≡ false → FineView words
 unfolding view_in_range view_repeats
-fine_view n words many in_range_lem once =
-    let (counted, (inside, u)) = split (eqb n (length words) ∷ all_in_book words ∷ []) in_range_lem in
+fine_view n words many each_in_range once =
+    let (counted, (inside, u)) = split (eqb n (length words) ∷ all_in_book words ∷ []) each_in_range in
     record { least = many.0; most = many.1; inside = inside; once = not-false _ once }
 
 -- A standing ticket that is not badly made is well made.

@@ -190,9 +190,9 @@ module _ (shared : Shared) (whole : length shared.book ≡ words_in_book) (shelf
 keeps_run : {start : PlainState} (shelf : ℕ) → shelf < shelf_count → (book : Words) (calls : List Call) → Every Admitted calls → (shared : Shared) (n : Notes) → Between start shared n → Every (NotFilled shelf) (run_from shared calls).heard
     → Keeps shelf book shared → Keeps shelf book (run_from shared calls).end
 unfolding run_from
-keeps_run shelf inside book [] admitted shared n at none_filled_lem keeps = keeps
-keeps_run shelf inside book (call ∷ calls) admitted shared n at none_filled_lem keeps =
-    keeps_run shelf inside book calls admitted.1 (left_by shared call) (hear_call n call (heard_of shared call)) (between_call call admitted.0 shared n at) none_filled_lem.1 (by call admitted.0 none_filled_lem.0)
+keeps_run shelf inside book [] admitted shared n at no_shelf_filled keeps = keeps
+keeps_run shelf inside book (call ∷ calls) admitted shared n at no_shelf_filled keeps =
+    keeps_run shelf inside book calls admitted.1 (left_by shared call) (hear_call n call (heard_of shared call)) (between_call call admitted.0 shared n at) no_shelf_filled.1 (by call admitted.0 no_shelf_filled.0)
   where
     by : (call : Call) → Admitted call → NotFilled shelf (heard_of shared call) → Keeps shelf book (left_by shared call)
     by (framed frame out) bytes not_filled = keeps
@@ -311,7 +311,7 @@ fresh_empty : Emptied fresh_tickets
 fresh_empty team inside none_stands = get_or-replicate {A = Ticket} team_count team no_ticket no_ticket inside
 
 pub coming_back_returns : ComingBackReturns
-coming_back_returns store before between shelf first second filled_there none_filled_lem back_here =
+coming_back_returns store before between shelf first second filled_there no_shelf_filled back_here =
     let start : Between fresh_state (fresh store) no_notes = record { table = fresh_table; good = fresh_good store; empty = fresh_empty } in
     let until = (run store before).end in
     let at_until = between_run before first (fresh store) no_notes start in
@@ -328,7 +328,7 @@ coming_back_returns store before between shelf first second filled_there none_fi
     let kept = shelves_keep_apart until.store until.book shelf long at_until.good.whole inside in
     let keeps_there : Keeps shelf until.book there =
     (ap length Store-is ∙ kept.long, λ word below. ap (λ (store : Words). read_of (shelf_of store shelf) word) Store-is ∙ ap (λ (book : Words). read_of book word) kept.mine) in
-    let Keeps-here = keeps_run shelf inside until.book between second there (hear_call (notes_from no_notes (run store before).heard) call (heard_of until call)) at_there none_filled_lem keeps_there in
+    let Keeps-here = keeps_run shelf inside until.book between second there (hear_call (notes_from no_notes (run store before).heard) call (heard_of until call)) at_there no_shelf_filled keeps_there in
     let whole_shelf = length_shelf here.store shelf Keeps-here.0 inside in
     let same_book : after.book ≡ there.book =
     book_is ∙ ext_get_or 0 (shelf_of here.store shelf) until.book (whole_shelf ∙ sym at_until.good.whole) (λ word below. Keeps-here.1 word (omega (arith, below, whole_shelf))) in

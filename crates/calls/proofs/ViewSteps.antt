@@ -12,7 +12,7 @@ use Rattle.tickets.specs.Tickets.{Ticket, no_ticket, ticket_of, target_at, targe
 use Rattle.tickets.specs.declared.StepAnswer.TheVariants.{Claimed, Waiting, Returned, Seen}
 use Rattle.tickets.specs.Steps.{advanced, noting, values_named, values_of, values_seen}
 use Rattle.tickets.specs.Targets.{AllMatch}
-use Rattle.tickets.specs.Invariant.{FitTicket, StepKept, claimed_one_lem, claimed_last, waiting, found_other, stale_at_once, put_one, put_last, returned_one, returned_last, viewed_one, viewed_last, view_waiting, view_returned_one, view_returned_last}
+use Rattle.tickets.specs.Invariant.{FitTicket, StepKept, one_claimed, claimed_last, waiting, found_other, stale_at_once, put_one, put_last, returned_one, returned_last, viewed_one, viewed_last, view_waiting, view_returned_one, view_returned_last}
 use Rattle.tickets.proofs.TargetLists.{length_targets, targets_advanced}
 use Rattle.tickets.proofs.Names.{words_noting, names_noting}
 use Rattle.tickets.proofs.Keeping.{viewed_counts}
@@ -163,7 +163,7 @@ module _ {start : PlainState} (words : List ℕ) (heard : Noted) (turn : Turn st
         (tt, omega (arith, known.rest.swapped))
 
   pub view_kept : StepKept turn.shared.book (ticket_of turn.shared.tickets) plain team ticket → Kept turn
-  view_kept (claimed_one_lem claiming more left) = absurd (view_in Claiming claiming)
+  view_kept (one_claimed claiming more left) = absurd (view_in Claiming claiming)
   view_kept (claimed_last claiming last matches left) = absurd (view_in Claiming claiming)
   view_kept (waiting claiming holder other left) = absurd (view_in Claiming claiming)
   view_kept (found_other claiming some_claimed differs left) = absurd (view_in Claiming claiming)

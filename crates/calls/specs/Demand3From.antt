@@ -20,7 +20,7 @@ pub record Begins (shared : Shared) (plain : Plain) : Type 0 where
   pub sound : Sound plain
   pub words : (word : ℕ) → word < words_in_book → read_of shared.book word ≡ word_of plain word
   pub ranked : Accepted shared.ranks
-  pub none_filled_lem : shared.filled ≡ none_filled
+  pub no_shelf_filled : shared.filled ≡ none_filled
 
 -- Statement: from wherever a run may begin, the claim holds of every list of calls, for a bystander who knows the ranks of the start. The counts add up from the start's legs: before
 -- a coming back `counts_add_up` says that the legs and the granted strikes are as many as the legs of the start and the granted adds.

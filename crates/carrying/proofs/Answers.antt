@@ -162,13 +162,13 @@ module _ (old second : Words) (tickets : Tickets) where
   unfolding carry_of
   answered_exactly = record {
     wrong_length = exactly (Refused 1) _ (λ e. wrong_either old second (by_1 wrong stands unsound above e)) (λ n i. answered (either_wrong old second n i) stands unsound above);
-    ticket_stands_lem = exactly (Refused 14) _
+    a_ticket_stands = exactly (Refused 14) _
         (λ e. let tests = by_14 wrong stands unsound above e in (right_whole old second tests.0, tests.1))
         (λ (whole, standing) i. answered (whole_right old second whole i) (standing i) unsound above);
     unsound = exactly (Refused 15) _
         (λ e. let tests = by_15 wrong stands unsound above e in ((right_whole old second tests.0, tests.1), unsound_none old tests.2))
         (λ ((whole, empty), never) i. answered (whole_right old second whole i) (empty i) (none_unsound old never i) above);
-    leg_above_lem = exactly (Refused 16) _
+    a_leg_above = exactly (Refused 16) _
         (λ e. let tests = by_16 wrong stands unsound above e in ((right_whole old second tests.0, tests.1), book_of_lem old true tests.2 tests.3))
         (λ ((whole, empty), book) i. answered (whole_right old second whole i) (empty i) ((of_book old true book).0 i) ((of_book old true book).1 i));
     done = exactly Done _

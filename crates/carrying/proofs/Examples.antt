@@ -79,9 +79,9 @@ refusals = refl
 abbrev unsound_above : Words
 unsound_above = set old (newest_word 5) 1009
 
-leg_above_lem : leg_above (plain_in ThreeWords unsound_above) ≡ true
+a_leg_above : leg_above (plain_in ThreeWords unsound_above) ≡ true
 unfolding everything
-leg_above_lem = refl
+a_leg_above = refl
 
 unsound_first : carry_refusal unsound_above second fresh_tickets ≡ some 15
 unfolding everything
@@ -103,11 +103,11 @@ no_list (suc n) (suc passage) = no_list n passage
 -- It keeps the rules, if its leg is in range.
 pub alone_sound : (number : ℕ) → all_in_range ThreeWords 0 (list_of (alone number) 0) ≡ true → SoundIn ThreeWords (alone number)
 unfolding times_below
-alone_sound number fits = record { passages = refl; in_range_lem = in_range_lem; none_twice = none_twice }
+alone_sound number fits = record { passages = refl; each_in_range = each_in_range; none_twice = none_twice }
   where
-    in_range_lem : (passage : ℕ) → passage < passage_count → all_in_range ThreeWords passage (list_of (alone number) passage) ≡ true
-    in_range_lem zero below = fits
-    in_range_lem (suc passage) below = ap (all_in_range ThreeWords (suc passage)) (no_list 31 passage)
+    each_in_range : (passage : ℕ) → passage < passage_count → all_in_range ThreeWords passage (list_of (alone number) passage) ≡ true
+    each_in_range zero below = fits
+    each_in_range (suc passage) below = ap (all_in_range ThreeWords (suc passage)) (no_list 31 passage)
 
     none_twice : (r : ℕ) → times_below passage_count (alone number) r ≤ 1
     none_twice r = omega (arith, at_most (eqb r number))
@@ -146,7 +146,7 @@ next_leg_high = refl
 
 next_leg_refused : (carry_of (laid_out ThreeWords (alone 1009)) second fresh_tickets).0 ≡ Refused 16
 next_leg_refused =
-    (carry_answers (laid_out ThreeWords (alone 1009)) second fresh_tickets).leg_above_lem.1
+    (carry_answers (laid_out ThreeWords (alone 1009)) second fresh_tickets).a_leg_above.1
     (((length_laid_out ThreeWords (alone 1009), refl), none_stands), (alone 1009, alone_sound 1009 next_leg_fits, laid_out_words ThreeWords (alone 1009), next_leg_high))
 
 second_stays : (carry_of (laid_out ThreeWords (alone 1009)) second fresh_tickets).1 ≡ second

@@ -30,4 +30,4 @@ done_lists old second tickets done =
 pub carried_books_go_on : CarriedBooksGoOn
 carried_books_go_on old second tickets done table fits none_stands ranks accepted store =
     let (sound, whole, words) = done_lists old second tickets done in
-    record { whole = whole; fits = fits; none_stands = none_stands; sound = sound; words = words; ranked = accepted; none_filled_lem = refl }
+    record { whole = whole; fits = fits; none_stands = none_stands; sound = sound; words = words; ranked = accepted; no_shelf_filled = refl }

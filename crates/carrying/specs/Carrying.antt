@@ -92,9 +92,9 @@ OfBookWith above old = (plain : Plain) × SoundIn ThreeWords plain × WordsOf Th
 -- What a carry-over answers, each answer exactly when it is due; a refused one leaves the second book.
 pub record CarryAnswered (old second : Words) (tickets : Tickets) : Type 0 where
   pub wrong_length : ((carry_of old second tickets).0 ≡ Refused 1) ↔ ((length old ≢ words_in_book) ⊎ (length second ≢ words_in_book))
-  pub ticket_stands_lem : ((carry_of old second tickets).0 ≡ Refused 14) ↔ (BothWhole old second × (ticket_stands tickets ≡ true))
+  pub a_ticket_stands : ((carry_of old second tickets).0 ≡ Refused 14) ↔ (BothWhole old second × (ticket_stands tickets ≡ true))
   pub unsound : ((carry_of old second tickets).0 ≡ Refused 15) ↔ (Ready old second tickets × ¬ OfSomePlainBook ThreeWords old)
-  pub leg_above_lem : ((carry_of old second tickets).0 ≡ Refused 16) ↔ (Ready old second tickets × OfBookWith true old)
+  pub a_leg_above : ((carry_of old second tickets).0 ≡ Refused 16) ↔ (Ready old second tickets × OfBookWith true old)
   pub done : ((carry_of old second tickets).0 ≡ Done) ↔ (Ready old second tickets × OfBookWith false old)
   pub kept : (refusal : ℕ) → (carry_of old second tickets).0 ≡ Refused refusal → (carry_of old second tickets).1 ≡ second
   pub written : (carry_of old second tickets).0 ≡ Done → (carry_of old second tickets).1 ≡ carried old

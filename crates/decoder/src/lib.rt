@@ -1,4 +1,6 @@
 // Each edit's and a view's fields, read from the part of the frame after its kind. A field out of range ends the reading there.
+#![tactic(auto)]
+
 ghost use Rattle.std.specs.Prelude.{◌≡◌, true, [], ◌∷◌, ◌+◌, ◌*◌, ◌-◌, ◌≤◌, length, take};
 ghost use Rattle.words.specs.Words.{most_named};
 ghost use Rattle.edits.specs.declared.Edit.TheVariants as Edit;

@@ -1,4 +1,6 @@
 // What the programs share that make calls from standard input: room, the input's numbers and calls, and the text of answers.
+#![tactic(auto)]
+
 ghost use Rattle.std.specs.Prelude.{◌+◌, ◌≤◌, ◌<◌, length};
 
 use frames::numbers::{Bits, read16, read32};

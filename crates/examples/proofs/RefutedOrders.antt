@@ -116,4 +116,4 @@ to_itself = Add (record { passage = 0; leg = 1; newest = 0; count = 0; stations 
 
 same_station_lem : Linearizable (running fresh_book (standing to_itself Putting 5) (edited to_itself (map Claimed (1 ∷ 2 ∷ 3 ∷ 4 ∷ 5 ∷ [])))) → ⊥
 unfolding every_run place_in_range
-same_station_lem right = false≢true (right.plain_sound.in_range_lem 0 (omega arith))
+same_station_lem right = false≢true (right.plain_sound.each_in_range 0 (omega arith))

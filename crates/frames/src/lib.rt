@@ -1,4 +1,6 @@
 // Frames: what is read from a frame and what answers it, as types; numbers in bytes, and a frame's head.
+#![tactic(auto)]
+
 use crate::numbers::Bits;
 use edits::{Edit, View};
 use legs::Measure;

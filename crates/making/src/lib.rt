@@ -1,4 +1,6 @@
 // Whether a ticket is well made, by its slot and its targets as they stand in the table; whether all are, and whether any stands.
+#![tactic(auto)]
+
 ghost use Rattle.std.specs.Prelude.{◌≡◌, Bool, true, cond, List, map, ℕ, ◌+◌, ◌-◌, ◌≤◌, ◌<◌};
 ghost use Rattle.words.specs.Tests.{occurs, all_occur, distinct};
 ghost use Rattle.words.specs.Words.{team_count, most_targets, most_named};

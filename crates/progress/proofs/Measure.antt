@@ -16,7 +16,7 @@ use Rattle.tickets.specs.Tickets.{Ticket, no_ticket, target, target_at, targets_
 use Rattle.tickets.specs.declared.StepAnswer.{StepAnswer}
 use Rattle.tickets.specs.Steps.{swap_tried_in, swap_tried, advanced, noting, step_of}
 use Rattle.tickets.specs.Targets.{target_in}
-use Rattle.tickets.specs.Invariant.{with_slot, FitTicket, FitSlot, Invariant, Holder, Leaves, StepKept, claimed_one_lem, claimed_last, waiting, found_other, stale_at_once, put_one, put_last, returned_one, returned_last, viewed_one, viewed_last, view_waiting, view_returned_one, view_returned_last}
+use Rattle.tickets.specs.Invariant.{with_slot, FitTicket, FitSlot, Invariant, Holder, Leaves, StepKept, one_claimed, claimed_last, waiting, found_other, stale_at_once, put_one, put_last, returned_one, returned_last, viewed_one, viewed_last, view_waiting, view_returned_one, view_returned_last}
 use Rattle.tickets.proofs.TargetLists.{targets_advanced, claimable_at}
 use Rattle.tickets.proofs.Names.{words_noting}
 use Rattle.tickets.proofs.Keeping.{standing_fit, claims_counts, done_counts}
@@ -173,7 +173,7 @@ module _ (position : ℕ → ℕ) (words : Words) (tickets : ℕ → Ticket) (te
 
   goes_by : StepKept words tickets going.plain team ticket → Kept
   unfolding swaps_left
-  goes_by (claimed_one_lem is more left) = goes_on_lem left (fewer Claiming is (omega arith))
+  goes_by (one_claimed is more left) = goes_on_lem left (fewer Claiming is (omega arith))
   goes_by (claimed_last is last matches left) =
       goes_on_lem (left (all_put (targets_in ticket) going.plain) (all_put_lem (targets_in ticket) going.plain fit.claimable.once)) (fewer Claiming is (omega arith))
   goes_by (waiting is holder other left) = goes_on_lem left (waits_on Claiming is refl holder refl)

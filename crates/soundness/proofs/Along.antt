@@ -22,7 +22,7 @@ use Rattle.legs.specs.Reading.{passage_in, stations_in, measure_in, is_place, is
 use Rattle.plain.specs.Plain.{NumberedLeg, in_passage, newest_in, times_in}
 use Rattle.plain.proofs.OneList.{at_leg, newer_in, Every, times_there}
 use Rattle.plain.proofs.Slots.{place_at, measure_at, InRangeIn}
-use Rattle.plain.proofs.Lists.{in_range_lem}
+use Rattle.plain.proofs.Lists.{each_in_range}
 use Rattle.soundness.specs.Checking.{is_of_passage, fourth_is, may_follow, walk, walk_passage}
 use Rattle.soundness.specs.InWords.{leg_at, legs_along, list_in}
 use Rattle.soundness.proofs.Walking.{none_some, number_in, Following, following, walk_on, walk_off, walk_ends, passage_walk, passage_off}
@@ -131,7 +131,7 @@ module _ (layout : LegLayout) where
         starts = refl;
         stand = (
           record {
-            fits = in_range_lem layout p (leg_at layout words leg) (join (within 1 (last_leg_in layout) leg ∷ leg_in_range (in_passage p (leg_at layout words leg)) ∷ is_taken (leg_at layout words leg).measure ∷ [])
+            fits = each_in_range layout p (leg_at layout words leg) (join (within 1 (last_leg_in layout) leg ∷ leg_in_range (in_passage p (leg_at layout words leg)) ∷ is_taken (leg_at layout words leg).measure ∷ [])
                 (number_in layout leg follows.least follows.most, (join tests (figures.placed, (figures.measured, tt)), (figures.as_taken, tt))));
             link_is_lem = rest.starts;
             place_is = figures.place_is;

@@ -55,7 +55,7 @@ module _ {before : Words} {tickets : ℕ → Ticket} {plain : ℕ → ℕ} (i : 
       inside = omega (arith, held.inside);
       marked = read_same ∙ held.marked;
       plain_is = plain_same ∙ held.plain_is;
-      is_value_lem = held.is_value_lem;
+      a_value = held.a_value;
     }
     | kept no_others now ↦ absurd (not_others other word value differs holds no_others)
     | left no_others read small ↦ absurd (not_others other word value differs holds no_others)

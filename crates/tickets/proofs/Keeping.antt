@@ -77,7 +77,7 @@ module _ {size : ℕ} (ticket : Ticket) (fit : FitTicket size ticket) where
       in_phase : (phase : Phase) → ticket.phase ≡ phase → has_ticket phase ≡ true → claims phase ≡ false → (ticket.done < ticket.claimed) × (ticket.claimed ≤ ticket.n)
       in_phase NoTicket is stands over = absurd (false≢true stands)
       in_phase Claiming is stands over = absurd (false≢true (sym over))
-      in_phase Putting is stands over = let below = putting_counts is in let all = fit.all_claimed_lem is in (omega arith, omega arith)
+      in_phase Putting is stands over = let below = putting_counts is in let all = fit.all_were_claimed is in (omega arith, omega arith)
       in_phase GivingBack is stands over = let (below, inside) = giving_counts is in (below, omega arith)
       in_phase Viewing is stands over = absurd (false≢true (sym over))
       in_phase Viewed is stands over = let (below, all) = viewed_counts is in (below, omega arith)
@@ -120,11 +120,11 @@ module _ (size : ℕ) (ticket : Ticket) (fit : FitTicket size ticket) (claimed d
       → (phase ≡ Putting → claimed ≡ ticket.n)
       → (is_view phase ≡ true → is_view ticket.phase ≡ true)
       → FitTicket size (advanced ticket phase claimed done)
-  goes_on_lem phase counts none_done all_claimed_lem was_view = let same = sym (targets_advanced ticket phase claimed done) in record {
+  goes_on_lem phase counts none_done all_were_claimed was_view = let same = sym (targets_advanced ticket phase claimed done) in record {
     claimable = subst (Claimable size) same fit.claimable;
     counts = counts;
     none_done = none_done;
-    all_claimed_lem = all_claimed_lem;
+    all_were_claimed = all_were_claimed;
     names = λ view. subst (λ targets. names_well_made (map (λ one. one.new) targets) (map (λ one. one.word) targets) ≡ true) same (fit.names (was_view view));
     few = λ view. fit.few (was_view view);
     room = λ view. fit.room (was_view view);
@@ -135,8 +135,8 @@ module _ (size : ℕ) (ticket : Ticket) (fit : FitTicket size ticket) (claimed d
       goes_on_lem phase (claims_well_made phase ticket.n claimed done claiming below) (λ same. none_done) (λ putting. absurd (false≢true (sym (ap claims putting) ∙ claiming))) was_view
 
   pub fit_putting : done < ticket.n → claimed ≡ ticket.n → FitTicket size (advanced ticket Putting claimed done)
-  fit_putting below all_claimed_lem =
-      goes_on_lem Putting (lt-ltb done ticket.n below) (λ claiming. absurd (false≢true claiming)) (λ same. all_claimed_lem) (λ view. absurd (false≢true view))
+  fit_putting below all_were_claimed =
+      goes_on_lem Putting (lt-ltb done ticket.n below) (λ claiming. absurd (false≢true claiming)) (λ same. all_were_claimed) (λ view. absurd (false≢true view))
 
   pub fit_giving : done < claimed → claimed < ticket.n → FitTicket size (advanced ticket GivingBack claimed done)
   fit_giving below inside =
@@ -152,12 +152,12 @@ module _ (size : ℕ) (ticket : Ticket) (fit : FitTicket size ticket) (claimed d
 pub fit_done : {size : ℕ} (ticket : Ticket) → FitTicket size ticket → claims ticket.phase ≡ false → ticket.done + 1 < ticket.claimed
     → FitTicket size (advanced ticket ticket.phase ticket.claimed (ticket.done + 1))
 fit_done {size} ticket fit over below = goes_on_lem size ticket fit ticket.claimed (ticket.done + 1) ticket.phase (counted ticket.phase refl)
-    (λ claiming. absurd (false≢true (sym over ∙ claiming))) fit.all_claimed_lem (λ view. view)
+    (λ claiming. absurd (false≢true (sym over ∙ claiming))) fit.all_were_claimed (λ view. view)
   where
     counted : (phase : Phase) → ticket.phase ≡ phase → counts_well_made phase ticket.n ticket.claimed (ticket.done + 1) ≡ true
     counted NoTicket is = counts_in ticket fit NoTicket is
     counted Claiming is = counts_in ticket fit Claiming is
-    counted Putting is = lt-ltb (ticket.done + 1) ticket.n (omega (arith, fit.all_claimed_lem is))
+    counted Putting is = lt-ltb (ticket.done + 1) ticket.n (omega (arith, fit.all_were_claimed is))
     counted GivingBack is = join (ltb (ticket.done + 1) ticket.claimed ∷ ltb ticket.claimed ticket.n ∷ []) (lt-ltb _ _ below, (lt-ltb _ _ (giving_counts ticket fit is).1, tt))
     counted Viewing is = counts_in ticket fit Viewing is
     counted Viewed is = join (ltb (ticket.done + 1) ticket.claimed ∷ eqb ticket.claimed ticket.n ∷ []) (lt-ltb _ _ below, (eq-eqb _ _ (viewed_counts ticket fit is).1, tt))
@@ -263,7 +263,7 @@ module _ {words : Words} {tickets : ℕ → Ticket} {plain : ℕ → ℕ} (i : I
               inside = rw length-set (apt.inside holds.at inside_n);
               marked = marked_now holds.at holds.claimed;
               plain_is = values holds.at holds.claimed;
-              is_value_lem = value_fits ticket apt phase holds.at inside_n;
+              a_value = value_fits ticket apt phase holds.at inside_n;
             }
 
         now : (k word : ℕ) → k < ticket.claimed + 1 → (target_at ticket k).word ≡ word → Becomes words (claimed_words words ticket team) plain after team (tickets team) new word
@@ -313,12 +313,12 @@ module _ {words : Words} {tickets : ℕ → Ticket} {plain : ℕ → ℕ} (i : I
           inside = rw length-set held.inside;
           marked = get_or-set_other words _ word _ 0 other ∙ held.marked;
           plain_is = held.plain_is;
-          is_value_lem = held.is_value_lem;
+          a_value = held.a_value;
         }
 
         each : (word : ℕ) → word < length words → Becomes words (done_words words (tickets team)) plain plain team (tickets team) new word
         each word inside = elim (ℕ_discrete word (done_target (tickets team)).word) [
-          | yes it ↦ left (inr (rw it held_done.marked)) (rw it (get_or-set_same words _ _ 0 held_done.inside ∙ sym held_done.plain_is)) (rw it (omega (arith, held_done.plain_is, held_done.is_value_lem)))
+          | yes it ↦ left (inr (rw it held_done.marked)) (rw it (get_or-set_same words _ _ 0 held_done.inside ∙ sym held_done.plain_is)) (rw it (omega (arith, held_done.plain_is, held_done.a_value)))
           | no other ↦ stays (get_or-set_other words _ word _ 0 other) refl (λ value holds. from word value holds other)
         ]
 

@@ -37,7 +37,7 @@ plain_alike words tickets plain alike i same = record {
     inside = held.inside;
     marked = held.marked;
     plain_is = same word held.inside ∙ held.plain_is;
-    is_value_lem = held.is_value_lem;
+    a_value = held.a_value;
   };
   free = λ word inside small. i.free word inside small ∙ sym (same word inside);
   owned = i.owned;
@@ -49,7 +49,7 @@ held_by_phase size ticket k fit = in_phase ticket.phase refl
     in_phase : (phase : Phase) → ticket.phase ≡ phase → HeldTarget phase ticket k ↔ ((ticket.done ≤ k) × (k < ticket.claimed))
     in_phase NoTicket none = ((λ held. absurd held), (λ held. false≢true (subst (λ phase. counts_well_made phase ticket.n ticket.claimed ticket.done ≡ true) none fit.counts)))
     in_phase Claiming claiming = let none = fit.none_done (ap claims claiming) in ((λ held. (omega arith, held)), (λ held. held.1))
-    in_phase Putting putting = let all = fit.all_claimed_lem putting in ((λ held. (held.0, omega arith)), (λ held. (held.0, omega arith)))
+    in_phase Putting putting = let all = fit.all_were_claimed putting in ((λ held. (held.0, omega arith)), (λ held. (held.0, omega arith)))
     in_phase GivingBack giving = ((λ held. held), (λ held. held))
     in_phase Viewing viewing = let none = fit.none_done (ap claims viewing) in ((λ held. (omega arith, held)), (λ held. held.1))
     in_phase Viewed viewed = ((λ held. held), (λ held. held))

@@ -70,7 +70,7 @@ module _ (ticket : Ticket) (value : ℕ) where
       claimable = at_claimable size (noting ticket value) record { some = apt.some; most = apt.most; inside = apt.inside; quoted = λ k below. noted_either (λ (one : ℕ). one < 2 ^ 63) ticket.quoted ticket.claimed k value small (apt.quoted k below); new = apt.new; once = apt.once };
       counts = fit.counts;
       none_done = fit.none_done;
-      all_claimed_lem = fit.all_claimed_lem;
+      all_were_claimed = fit.all_were_claimed;
       names = λ is_view_lem. subst₂ (λ names words. names_well_made names words ≡ true) (sym (names_noting ticket value)) (sym (words_noting ticket value)) (fit.names is_view_lem);
       few = fit.few;
       room = λ is_view_lem. omega (arith, fit.room is_view_lem, length-set ticket.quoted ticket.claimed value);

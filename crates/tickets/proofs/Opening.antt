@@ -29,7 +29,7 @@ opening_keeps words tickets plain team opened i none new = same_held i team open
       counts = claims_well_made opened.phase opened.n opened.claimed opened.done new.opens
           (omega (arith, (claimable_at (length words) opened new.claimable).some, new.none_claimed));
       none_done = λ e. new.none_done;
-      all_claimed_lem = λ putting. absurd (true≢false (sym new.opens ∙ ap claims putting));
+      all_were_claimed = λ putting. absurd (true≢false (sym new.opens ∙ ap claims putting));
       names = new.names;
       few = new.few;
       room = new.room;

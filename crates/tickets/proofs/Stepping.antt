@@ -18,7 +18,7 @@ use Rattle.tickets.specs.declared.StepAnswer.TheVariants.{Waiting, Stale}
 use Rattle.tickets.specs.Tickets.{no_ticket, ticket_of, with_ticket, target_at, targets_in, has_ticket, is_view, claims}
 use Rattle.tickets.specs.Steps.{tries, swap_tried_in, swap_tried, one_more_try, advanced, stepped, noting, settled, step_of}
 use Rattle.tickets.specs.Targets.{AllMatch, PutInto}
-use Rattle.tickets.specs.Invariant.{with_slot, plain_value, Holds, Holder, FitTicket, Invariant, Leaves, StepKept, claimed_one_lem, claimed_last, waiting, found_other, stale_at_once, put_one, put_last, returned_one, returned_last, viewed_one, viewed_last, view_waiting, view_returned_one, view_returned_last, StepKeeps, MarkFound, LengthKept}
+use Rattle.tickets.specs.Invariant.{with_slot, plain_value, Holds, Holder, FitTicket, Invariant, Leaves, StepKept, one_claimed, claimed_last, waiting, found_other, stale_at_once, put_one, put_last, returned_one, returned_last, viewed_one, viewed_last, view_waiting, view_returned_one, view_returned_last, StepKeeps, MarkFound, LengthKept}
 use Rattle.tickets.proofs.Slots.{table_slots}
 use Rattle.tickets.proofs.TargetLists.{length_targets, target_listed, claimable_at, at_match, put_at}
 use Rattle.tickets.proofs.Changing.{HeldAlike}
@@ -271,7 +271,7 @@ module _ (words : Words) (tickets : ℕ → Ticket) (plain : ℕ → ℕ) (team 
     kept_by_lem : Outcome (tickets team) (found_by words (tickets team) team) → StepKept words tickets plain team (tickets team)
     kept_by_lem (claims_one claiming same more settles) =
         let more_below = more_claims (ap claims claiming) more in
-        claimed_one_lem claiming more_below (leaves plain _ _ _ settles (words_claimed claiming same) (claims_more claiming same more_below))
+        one_claimed claiming more_below (leaves plain _ _ _ settles (words_claimed claiming same) (claims_more claiming same more_below))
     kept_by_lem (claims_last claiming same last settles) =
         claimed_last claiming last (all_match claiming same last) (λ after put. leaves after _ _ _ settles (words_claimed claiming same) (claims_all claiming same last after put))
     kept_by_lem (waits claiming differs large settles) =
@@ -284,10 +284,10 @@ module _ (words : Words) (tickets : ℕ → Ticket) (plain : ℕ → ℕ) (team 
         stale_at_once claiming none (not_plain claiming differs small)
         (leaves plain _ _ _ (settles ∙ ap (λ k. stepped no_ticket (Stale (target_at (tickets team) k).word (one_more_try (tickets team).tries))) none) (words_same claiming differs) (ends_keeps (ap claims claiming) none))
     kept_by_lem (puts_one putting more settles) =
-        let all = fit.all_claimed_lem putting in
+        let all = fit.all_were_claimed putting in
         let more_below = more_done Putting putting refl refl (λ same. more (same ∙ all)) in
         put_one putting (omega arith) (one_done Putting putting refl refl more_below settles)
-    kept_by_lem (puts_last putting last settles) = put_last putting last (all_done Putting putting refl refl (last ∙ sym (fit.all_claimed_lem putting)) settles)
+    kept_by_lem (puts_last putting last settles) = put_last putting last (all_done Putting putting refl refl (last ∙ sym (fit.all_were_claimed putting)) settles)
     kept_by_lem (returns_one giving more settles) = let more_below = more_done GivingBack giving refl refl more in returned_one giving more_below (one_done GivingBack giving refl refl more_below settles)
     kept_by_lem (returns_last giving last settles) = returned_last giving last (all_done GivingBack giving refl refl last settles)
     kept_by_lem (notes_one viewing small more settles) =

@@ -46,7 +46,7 @@ pub record FitTicket (size : ℕ) (ticket : Ticket) : Type 0 where
   pub claimable : Claimable size (targets_in ticket)
   pub counts : counts_well_made ticket.phase ticket.n ticket.claimed ticket.done ≡ true
   pub none_done : claims ticket.phase ≡ true → ticket.done ≡ 0
-  pub all_claimed_lem : ticket.phase ≡ Putting → ticket.claimed ≡ ticket.n
+  pub all_were_claimed : ticket.phase ≡ Putting → ticket.claimed ≡ ticket.n
   pub names : is_view ticket.phase ≡ true → names_well_made (named_in ticket) (words_in ticket) ≡ true
   pub few : is_view ticket.phase ≡ true → ticket.n ≤ most_named
   pub room : is_view ticket.phase ≡ true → ticket.n ≤ length ticket.quoted
@@ -75,7 +75,7 @@ pub record HeldWord (words : Words) (plain : ℕ → ℕ) (team word value : ℕ
   pub inside : word < length words
   pub marked : read_of words word ≡ mark_of team
   pub plain_is : plain word ≡ value
-  pub is_value_lem : value < 2 ^ 63
+  pub a_value : value < 2 ^ 63
 
 -- At all times: every slot is fit; what a team holds is held as above; a word that is no mark is the plain word; and a word that is one is held by some team.
 pub record Invariant (words : Words) (tickets : ℕ → Ticket) (plain : ℕ → ℕ) : Type 0 where
@@ -133,7 +133,7 @@ pub record Leaves (words : Words) (tickets : ℕ → Ticket) (team : ℕ) (plain
 -- What one step of a team's ticket does, by its answer. The plain words stay, except with the last claim: there they change, all targets at once.
 pub data StepKept (words : Words) (tickets : ℕ → Ticket) (plain : ℕ → ℕ) (team : ℕ) (ticket : Ticket) : Type 0 where
   -- Claimed, and not the last.
-  claimed_one_lem : ticket.phase ≡ Claiming
+  one_claimed : ticket.phase ≡ Claiming
       → ticket.claimed + 1 < ticket.n
       → Leaves words tickets team plain (advanced ticket Claiming (ticket.claimed + 1) ticket.done) (Claimed (ticket.claimed + 1))
       → StepKept words tickets plain team ticket

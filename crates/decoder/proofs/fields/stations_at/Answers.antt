@@ -1,0 +1,6 @@
+-- `decoder::fields::stations_at` meets its contract: the two numbers read are the fields.
+use borrow.Author.Rules.{rules}
+use Rattle.decoder.proofs.fields.stations_at.Goals as goal
+
+pub returns : goal.returns
+returns c = simp (c.read16-from.ensures.0, c.read16-to.ensures.0)

@@ -1,0 +1,78 @@
+-- `decoder::decoding::read_move` meets its contract: the first field out of range is some field out of range, and then the repeats are tested.
+use borrow.Author.Tests.{eq-eqb, ne_eqb}
+use mathlib.Core.Path.{sym, ◌∙◌}
+use mathlib.Core.Bool.{true≢false}
+use Rattle.edits.specs.declared.Edit.TheVariants as Edit
+use mathlib.Core.Logic.{⊎_elim}
+use Rattle.frames.specs.Requests.{move_in, taken_at}
+use Rattle.frames.proofs.Ranges.{first_of, next_of, none_of}
+use Rattle.decoder.proofs.Answered.{field_out, taken_field_out}
+use Rattle.decoder.proofs.Decoded.{refused_10, refused_11, read_as_lem, move_fits, move_decoded, move_repeats}
+use borrow.Author.Rules.{rules}
+use Rattle.decoder.proofs.read_move.Goals as goal
+
+pub returns-in_default : goal.returns-in_default
+unfolding move_in
+returns-in_default c = let part = c.args.part.now in
+    refused_10 (Edit.Move (move_in part))
+    (λ h. true≢false (sym (move_fits (move_in part) h).passage ∙ field_out _ _ (sym c.passage_field.ensures ∙ c.in_default.is)))
+
+pub returns-in_default-passage_field : goal.returns-in_default-passage_field
+unfolding move_in
+returns-in_default-passage_field c = let part = c.args.part.now in
+    refused_10 (Edit.Move (move_in part))
+    (λ h. true≢false (sym (move_fits (move_in part) h).into ∙ field_out _ _ (sym c.passage_field-2.ensures ∙ c.in_default-passage_field.is)))
+
+pub returns-in_default-taken_field : goal.returns-in_default-taken_field
+unfolding move_in
+returns-in_default-taken_field c = let part = c.args.part.now in
+    refused_10 (Edit.Move (move_in part))
+    (λ h. true≢false (sym (move_fits (move_in part) h).taken ∙ taken_field_out (taken_at part 6) (sym c.taken_field.ensures ∙ c.in_default-taken_field.is)))
+
+pub returns-in_default-field_up_to : goal.returns-in_default-field_up_to
+unfolding move_in
+returns-in_default-field_up_to c = let part = c.args.part.now in
+    refused_10 (Edit.Move (move_in part))
+    (λ h. true≢false (sym (move_fits (move_in part) h).newest ∙ field_out _ _ (sym c.field_up_to.ensures ∙ c.in_default-field_up_to.is)))
+
+pub returns-in_default-field_up_to-2 : goal.returns-in_default-field_up_to-2
+unfolding move_in
+returns-in_default-field_up_to-2 c = let part = c.args.part.now in
+    refused_10 (Edit.Move (move_in part))
+    (λ h. true≢false (sym (move_fits (move_in part) h).count ∙ field_out _ _ (sym c.field_up_to-2.ensures ∙ c.in_default-field_up_to-2.is)))
+
+pub returns-then-stations : goal.returns-then-stations
+returns-then-stations c = let part = c.args.part.now in
+    let (same, fits) =
+    move_decoded part c.in-InRange.passage c.in-InRange-passage_field.into c.in-InRange-taken_field.taken c.in-InRange-field_up_to.newest c.in-InRange-field_up_to-2.count c.stations_at-stations.result
+    (sym c.passage_field.ensures ∙ c.in-InRange.is)
+    (sym c.passage_field-2.ensures ∙ c.in-InRange-passage_field.is)
+    (sym c.taken_field.ensures ∙ c.in-InRange-taken_field.is)
+    (sym c.field_up_to.ensures ∙ c.in-InRange-field_up_to.is)
+    (sym c.field_up_to-2.ensures ∙ c.in-InRange-field_up_to-2.is)
+    c.stations_at-stations.ensures in
+    refused_11 _ _ same fits (move_repeats _ ∙ ⊎_elim (λ w. first_of _ _ (eq-eqb _ _ w.taken)) (λ w. next_of _ _ _ (ne_eqb _ _ w.0.left) (first_of _ _ w.1.taken)) c.then-stations.branch)
+
+pub returns-then-named_twice : goal.returns-then-named_twice
+returns-then-named_twice c = let part = c.args.part.now in
+    let (same, fits) =
+    move_decoded part c.in-InRange.passage c.in-InRange-passage_field.into c.in-InRange-taken_field.taken c.in-InRange-field_up_to.newest c.in-InRange-field_up_to-2.count c.stations_at-stations.result
+    (sym c.passage_field.ensures ∙ c.in-InRange.is)
+    (sym c.passage_field-2.ensures ∙ c.in-InRange-passage_field.is)
+    (sym c.taken_field.ensures ∙ c.in-InRange-taken_field.is)
+    (sym c.field_up_to.ensures ∙ c.in-InRange-field_up_to.is)
+    (sym c.field_up_to-2.ensures ∙ c.in-InRange-field_up_to-2.is)
+    c.stations_at-stations.ensures in
+    refused_11 _ _ same fits (move_repeats _ ∙ next_of _ _ _ (ne_eqb _ _ c.if-stations.false) (next_of _ _ _ c.if-into-passage.false-raw (first_of _ _ (sym c.named_twice.ensures ∙ c.if-named_twice.true))))
+
+pub returns : goal.returns
+returns c = let part = c.args.part.now in
+    let (same, fits) =
+    move_decoded part c.in-InRange.passage c.in-InRange-passage_field.into c.in-InRange-taken_field.taken c.in-InRange-field_up_to.newest c.in-InRange-field_up_to-2.count c.stations_at-stations.result
+    (sym c.passage_field.ensures ∙ c.in-InRange.is)
+    (sym c.passage_field-2.ensures ∙ c.in-InRange-passage_field.is)
+    (sym c.taken_field.ensures ∙ c.in-InRange-taken_field.is)
+    (sym c.field_up_to.ensures ∙ c.in-InRange-field_up_to.is)
+    (sym c.field_up_to-2.ensures ∙ c.in-InRange-field_up_to-2.is)
+    c.stations_at-stations.ensures in
+    read_as_lem _ _ same fits (move_repeats _ ∙ next_of _ _ _ (ne_eqb _ _ c.if-stations.false) (next_of _ _ _ c.if-into-passage.false-raw (next_of _ _ _ (sym c.named_twice.ensures ∙ c.if-named_twice.false) none_of)))

@@ -1,0 +1,26 @@
+-- `decoder::read_view` meets its contract: the count, the words and repeats are tested in that order.
+use borrow.Author.Tests.{not-true, not-false}
+use mathlib.Core.Path.{sym, ◌∙◌}
+use Rattle.decoder.proofs.Viewed.{miscounted, outside, repeated, view_read_lem}
+use borrow.Author.Rules.{rules}
+use Rattle.decoder.proofs.read_view.Goals as goal
+
+pub returns-then-n-count : goal.returns-then-n-count
+returns-then-n-count c =
+    c.refused_view.ensures ∙ miscounted c.args.part.now c.read16-n.ensures.0 c.if-n-count.true
+
+pub returns-then-not-all_in_book : goal.returns-then-not-all_in_book
+returns-then-not-all_in_book c =
+    c.refused_view-then-not-all_in_book.ensures
+    ∙ outside c.args.part.now c.read16-n.ensures.0 c.if-n-count.false c.named_words-words.ensures (sym c.all_in_book.ensures ∙ not-true _ c.if-not-all_in_book.true-raw)
+
+pub returns-then-not-distinct : goal.returns-then-not-distinct
+returns-then-not-distinct c =
+    c.refused_view-then-not-distinct.ensures
+    ∙ repeated c.args.part.now c.read16-n.ensures.0 c.if-n-count.false c.named_words-words.ensures
+    (sym c.all_in_book.ensures ∙ not-false _ c.if-not-all_in_book.false-raw) (sym c.distinct.ensures ∙ not-true _ c.if-not-distinct.true-raw)
+
+pub returns : goal.returns
+returns c =
+    view_read_lem c.args.part.now c.read16-n.ensures.0 c.if-n-count.false c.named_words-words.ensures
+    (sym c.all_in_book.ensures ∙ not-false _ c.if-not-all_in_book.false-raw) (sym c.distinct.ensures ∙ not-false _ c.if-not-distinct.false-raw)

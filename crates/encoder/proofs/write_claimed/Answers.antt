@@ -1,0 +1,12 @@
+-- `encoder::write_claimed` meets its contract: the kind and the fields of its answer.
+use Rattle.tickets.specs.declared.StepAnswer.TheVariants.{Claimed}
+use Rattle.frames.specs.declared.Answer.TheVariants as Answer
+use Rattle.frames.proofs.Framed.{fitted}
+use Rattle.frames.specs.Answers.{answer_frame}
+use borrow.Author.Rules.{rules}
+use Rattle.encoder.proofs.write_claimed.Goals as goal
+
+pub returns : goal.returns
+unfolding answer_frame
+returns c =
+    fitted _ _ c.args.out.now (Answer.Step (Claimed c.args.many)) c.write_short.ensures

@@ -1,0 +1,11 @@
+-- `encoder::write_standing` meets its contract: the kind and the field of its answer.
+use Rattle.frames.specs.declared.Answer.TheVariants as Answer
+use Rattle.frames.proofs.Framed.{fitted}
+use Rattle.frames.specs.Answers.{answer_frame}
+use borrow.Author.Rules.{rules}
+use Rattle.encoder.proofs.write_standing.Goals as goal
+
+pub returns : goal.returns
+unfolding answer_frame
+returns c =
+    fitted _ _ c.args.out.now (Answer.Standing c.args.n) c.write_short.ensures

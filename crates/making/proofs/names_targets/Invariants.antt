@@ -1,0 +1,22 @@
+use borrow.Author.Tests.{not-true, not-false}
+use native.Mathlib.Omega.{arith}
+use mathlib.Core.Path.{◌≡◌, sym, ap, ◌∙◌}
+use mathlib.Core.Bool.{true, false, cond}
+use mathlib.Core.List.{List, map}
+use Prim.Native.Nat.{ℕ, ◌+◌, ◌-◌}
+use Rattle.words.specs.Tests.{occurs, all_occur}
+use Rattle.tickets.specs.declared.Target.{Target}
+use Rattle.tickets.specs.Tickets.{words_in, named_in}
+use Rattle.tickets.specs.Table.{targets_of}
+use Rattle.tickets.proofs.TargetLists.{all_targets}
+use Rattle.tickets.proofs.Passing.{names_from, named_next, named_none}
+use Rattle.making.proofs.Reading.{read_target}
+use Rattle.making.proofs.names_targets.Given as goal
+
+abbrev pub invariant-loop-k : goal.invariant-loop-k
+invariant-loop-k l =
+    let ticket = targets_of l.targets l.slot l.n in
+    all_occur (named_in ticket) (words_in ticket) ≡ all_occur (names_from l.k (l.n - l.k) ticket) (words_in ticket)
+
+abbrev pub decreases-loop-k : goal.decreases-loop-k
+decreases-loop-k l = l.n - l.k

@@ -1,0 +1,56 @@
+-- `making::targets_well_made` meets its contract: the test of all targets is that of those not yet passed.
+use borrow.Author.Tests.{not-true, not-false}
+use native.Mathlib.Omega.{arith}
+use mathlib.Core.Path.{◌≡◌, sym, ap, ◌∙◌}
+use mathlib.Core.Bool.{true, false, cond}
+use Prim.Native.Nat.{◌+◌, ◌-◌}
+use Rattle.tickets.specs.Tickets.{target_at, targets_from, targets_in, target_well_made, all_well_made}
+use Rattle.tickets.specs.Table.{targets_of}
+use Rattle.tickets.proofs.TargetLists.{all_targets}
+use Rattle.tickets.proofs.Made.{peel, none_left}
+use Rattle.making.proofs.Reading.{read_target}
+use borrow.Author.Rules.{rules}
+use Rattle.making.proofs.targets_well_made.Goals as goal
+
+pub loop-k-init : goal.loop-k-init
+loop-k-init c = ap all_well_made (all_targets (targets_of c.args.targets.now c.args.slot c.args.n))
+
+pub target_well_made-requires : goal.target_well_made-requires
+target_well_made-requires c =
+    (c.requires.0, omega (arith, c.loop-k-test.true, c.requires.1))
+
+pub returns-then-not-target_well_made : goal.returns-then-not-target_well_made
+returns-then-not-target_well_made c =
+    let loop = c.loop-k in
+    let args = c.args in
+    let ticket = targets_of args.targets.now args.slot args.n in
+    let same = read_target args.targets.now args.slot loop.k args.n c.loop-k-test.true c.requires.1 in
+    let bad : target_well_made (target_at ticket loop.k) ≡ false = ap target_well_made (sym same) ∙ sym c.target_well_made.ensures ∙ not-true _ c.if-not-target_well_made.true-raw in
+    sym
+    (loop.invariant
+    ∙ peel ticket args.n loop.k c.loop-k-test.true
+    ∙ ap (λ b. cond b (all_well_made (targets_from (loop.k + 1) (args.n - (loop.k + 1)) ticket)) false) bad)
+
+pub overflow_add-k : goal.overflow_add-k
+overflow_add-k c =
+    omega (arith, c.loop-k-test.true, c.requires.1)
+
+pub loop-k-smaller : goal.loop-k-smaller
+loop-k-smaller c = omega (arith, c.loop-k-test.true)
+
+pub loop-k-preserved : goal.loop-k-preserved
+loop-k-preserved c =
+    let loop = c.loop-k in
+    let args = c.args in
+    let ticket = targets_of args.targets.now args.slot args.n in
+    let same = read_target args.targets.now args.slot loop.k args.n c.loop-k-test.true c.requires.1 in
+    let good : target_well_made (target_at ticket loop.k) ≡ true = ap target_well_made (sym same) ∙ sym c.target_well_made.ensures ∙ not-false _ c.if-not-target_well_made.false-raw in
+    loop.invariant
+    ∙ peel ticket args.n loop.k c.loop-k-test.true
+    ∙ ap (λ b. cond b (all_well_made (targets_from (loop.k + 1) (args.n - (loop.k + 1)) ticket)) false) good
+
+pub returns : goal.returns
+returns c =
+    let loop = c.loop-k in
+    let args = c.args in
+    sym (loop.invariant ∙ none_left (targets_of args.targets.now args.slot args.n) args.n loop.k c.loop-k-test.false)
