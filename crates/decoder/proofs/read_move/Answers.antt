@@ -51,7 +51,7 @@ returns-then-stations c = let part = c.args.part.now in
     (sym c.field_up_to.ensures ∙ c.in-InRange-field_up_to.is)
     (sym c.field_up_to-2.ensures ∙ c.in-InRange-field_up_to-2.is)
     c.stations_at-stations.ensures in
-    refused_11 _ _ same fits (move_repeats _ ∙ ⊎_elim (λ w. first_of _ _ (eq-eqb _ _ w.taken)) (λ w. next_of _ _ _ (ne_eqb _ _ w.0.left) (first_of _ _ w.1.taken)) c.then-stations.branch)
+    refused_11 _ _ same fits (move_repeats _ ∙ ⊎_elim (λ w. first_of _ _ (eq-eqb _ _ w)) (λ w. next_of _ _ _ (ne_eqb _ _ w.0) (first_of _ _ (eq-eqb _ _ w.1))) c.then-stations.either)
 
 pub returns-then-named_twice : goal.returns-then-named_twice
 returns-then-named_twice c = let part = c.args.part.now in

@@ -33,12 +33,11 @@ pub returns : goal.returns
 unfolding answer_frame
 returns c =
     let loop = c.loop-k in
-    let put = c.put_head-count in
     let shown = c.values_shown-shown in
     let out = c.args.out.now in
     let values = c.args.values in
     let all : loop.k ≡ shown.result = omega arith in
     fitted _ _ out (Answer.Step (Seen (values_from c.args.n values)))
-    (values_written out _ _ values shown.result 139 _ (omega arith) (omega arith) put.ensures.0 put.ensures.1
-    (loop.invariant.1 ∙ ap (λ (k : ℕ). sets put.new.0 4 (fields64 (take k values))) all)
+    (values_written out _ _ values shown.result 139 _ (omega arith) (omega arith) c.put_head-count.ensures.0 c.put_head-count.ensures.1
+    (loop.invariant.1 ∙ ap (λ (k : ℕ). sets c.put_head-count.new.out 4 (fields64 (take k values))) all)
     ∙ ap (λ (l : List ℕ). written out (frame_of 139 (fields64 l))) (ap (λ (k : ℕ). take k values) shown.ensures ∙ first_shown c.args.n values c.well_formed.1.0.1.0.1))

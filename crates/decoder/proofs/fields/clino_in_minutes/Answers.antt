@@ -45,6 +45,6 @@ returns c = let args = c.args in
     let part = args.part.now in
     let read = clino_read (number16 part (args.at + 8)) (number16 part (args.at + 10)) (number16 part (args.at + 12)) _ _ _ _ (sym c.field_up_to.ensures ∙ c.in-InRange.is) (sym c.field_up_to-2.ensures ∙ c.in-InRange-field_up_to.is) c.last_minute.ensures (sym c.field_up_to-3.ensures ∙ c.in-InRange-field_up_to-2.is) in
     ap SignedField.InRange (search rules)
-    ∙ ap SignedField.InRange c.Signed-by.ensures
+    ∙ ap SignedField.InRange c.signed_by.ensures
     ∙ ap (λ (steepness : ℕ). SignedField.InRange (signed_by c.in-InRange.sign steepness)) c.hundredths-steepness.ensures.0
     ∙ clino_read_in read
