@@ -1,4 +1,5 @@
 // What a call and a stream give, as types. What they are is said in specs/, with the theorems about every list of
+#![tactic(auto)]
 // calls; the code stands in the crate book.
 use tickets::Tickets;
 

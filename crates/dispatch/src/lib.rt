@@ -1,4 +1,6 @@
 // Where a frame goes: which stands at a place of the input, and to which team it is sent.
+#![tactic(auto)]
+
 ghost use Rattle.std.specs.Prelude.{◌≡◌, ◌+◌, ◌≤◌, ◌<◌, length};
 ghost use Rattle.words.specs.Words.{team_count};
 ghost use Rattle.frames.specs.Fields.{Whole};

@@ -1,1 +1,2 @@
 // That waiting ends: definitions and theorems, no code.
+#![tactic(auto)]

@@ -1,4 +1,6 @@
 // The cave's own ranks: whether a table can be in force, and the load that puts one in force.
+#![tactic(auto)]
+
 ghost use Rattle.std.specs.Prelude.{◌≡◌, length};
 ghost use Rattle.words.specs.Words.{passage_count};
 ghost use Rattle.legs.specs.Positions.{is_permutation};

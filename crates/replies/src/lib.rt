@@ -1,4 +1,6 @@
 // What every step of a ticket takes and leaves: a target read from the table, an answer put at a place of the output.
+#![tactic(auto)]
+
 ghost use Rattle.std.specs.Prelude.{◌≡◌, ◌<◌};
 ghost use Rattle.words.specs.Words.{words_in_book, team_count, holder_of};
 ghost use Rattle.tickets.specs.declared.StepAnswer.TheVariants.{Claimed, Waiting, Found, Put, Returned, Granted, Stale, Seen};

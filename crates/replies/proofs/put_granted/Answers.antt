@@ -1,0 +1,14 @@
+-- `replies::put_granted` meets its contract: the tries, written in the room from the place on.
+use mathlib.Core.Path.{refl}
+use Rattle.tickets.specs.declared.StepAnswer.TheVariants.{Granted}
+use Rattle.frames.specs.declared.Answer.TheVariants as Answer
+use Rattle.frames.specs.Answers.{answer_frame}
+use Rattle.replies.proofs.Placing.{put_at}
+use borrow.Author.Rules.{rules}
+use Rattle.replies.proofs.put_granted.Goals as goal
+
+pub returns : goal.returns
+returns c =
+    let sent = c.write_granted-count in
+    let args = c.args in
+    put_at args.out.now args.at (answer_frame (Answer.Step (Granted args.tries))) _ _ _ c.requires.inside c.requires.room sent.ensures refl c.out-1.given.1
