@@ -13,7 +13,7 @@ import os
 import re
 import sys
 
-TOKEN = re.compile(r"[^\W\d][\w'′-]*", re.UNICODE)
+TOKEN = re.compile(r"(?<![\w'′-])[^\W\d][\w'′-]*", re.UNICODE)
 DECLARED = re.compile(r"^(?:(?:abbrev|unfoldable|pub|data|record|axiom|mutual)\s+)*([^\W\d][\w'′-]*)\s*(?:\(|\{|:)", re.UNICODE)
 CRATES = set(os.listdir("crates")) if os.path.isdir("crates") else set()
 # What Rattle itself makes, and what its library declares, keeps its spelling.

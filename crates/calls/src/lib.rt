@@ -1,6 +1,7 @@
 // What a call and a stream give, as types. What they are is said in specs/, with the theorems about every list of
-#![tactic(auto)]
 // calls; the code stands in the crate book.
+#![tactic(auto)]
+
 use tickets::Tickets;
 
 // What the call returns: the bytes written (1, 13 or 2 for those refusals), and the tickets.

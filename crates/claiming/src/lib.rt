@@ -1,4 +1,6 @@
 // The claims of an edit: one more word, or a claim that misses.
+#![tactic(auto)]
+
 ghost use Rattle.std.specs.Prelude.{◌≡◌};
 ghost use Rattle.tickets.specs.declared.Phase.TheVariants.{Claiming};
 ghost use Rattle.tickets.specs.Steps.{step_of};

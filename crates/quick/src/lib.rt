@@ -1,4 +1,6 @@
 // The fast way of an edit: its claims and puts that go through, with no branch on the phase.
+#![tactic(auto)]
+
 ghost use Rattle.std.specs.Prelude.{◌≡◌, cond, ◌+◌, ◌*◌, ◌<◌, length, eqb};
 ghost use Rattle.words.specs.Words.{Words, words_in_book, team_count};
 ghost use Rattle.tickets.specs.Steps.{swap_tried};

@@ -1,4 +1,6 @@
 // The words of an edit released: put with their new values, or given back.
+#![tactic(auto)]
+
 ghost use Rattle.tickets.specs.declared.Phase.TheVariants.{Putting, GivingBack};
 ghost use Rattle.tickets.specs.Steps.{step_of};
 ghost use Rattle.tickets.specs.Table.{gathered};

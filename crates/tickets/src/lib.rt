@@ -53,7 +53,7 @@ pub struct Ticket {
 // One slot for each team, and the targets of all tickets, one team's after another's: of each its word, its quoted and its new
 // value. A view keeps the values that it found where an edit keeps those it quotes, and the words in the order named
 // where an edit keeps new values.
-#[derive(Drop)]
+#[derive(Clone, Copy)]
 pub struct Tickets {
     pub slots: [Ticket; Limits::TEAMS],
     pub targets: [u64; Tickets::NUMBERS],

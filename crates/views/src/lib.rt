@@ -1,4 +1,6 @@
 // A step of a view: a claim, whose value is noted, or a give-back, the last of which shows the values.
+#![tactic(auto)]
+
 ghost use Rattle.std.specs.Prelude.{◌≡◌, ℕ, ◌*◌, ◌≤◌, ◌<◌, length, get_or};
 ghost use Rattle.words.specs.Words.{team_count, most_targets, most_named};
 ghost use Rattle.tickets.specs.declared.Phase.TheVariants.{Viewing, Viewed};

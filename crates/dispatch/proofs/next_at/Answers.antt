@@ -1,0 +1,56 @@
+-- `dispatch::next_at` meets its contract: a step told by its first bytes, or the next frame, each where there is room.
+use native.Mathlib.Omega.{arith}
+use Prim.Native.Nat.{ℕ, ◌+◌, ◌<◌}
+use mathlib.Core.Path.{◌≡◌, sym, ap, subst, ◌∙◌}
+use mathlib.Core.Bool.{true}
+use borrow.Author.Tests.{not-true}
+use lib.ListN.{get_or}
+use Rattle.frames.specs.Numbers.{Bytes, number16}
+use Rattle.frames.specs.Requests.{head_bytes}
+use Rattle.calls.specs.Stream.{NextInside}
+use Rattle.dispatch.specs.Ahead.{step_at, ahead_of, AheadInside}
+use Rattle.dispatch.specs.declared.Ahead.TheVariants as Ahead
+use Rattle.dispatch.proofs.Steps.{StepThere, step_there_lem, step_found, step_ahead, full_ahead, end_ahead, other_ahead}
+use borrow.Author.Rules.{rules}
+use Rattle.dispatch.proofs.next_at.Goals as goal
+
+-- Two bytes make a number of 16 bits.
+low : (input : Bytes) (at : ℕ) → ((k : ℕ) → get_or input k 0 < 256) → number16 input at < 65536
+low input at byte = omega (arith, byte at, byte (at + 1))
+
+pub returns-then-room-lt-LONGEST : goal.returns-then-room-lt-LONGEST
+returns-then-room-lt-LONGEST c =
+    let input = c.args.input.now in
+    let there = step_there_lem input c.args.at (low input c.args.at (λ (k : ℕ). omega (arith, c.shared_slice_known-1.given k))) (sym c.is_step_at.ensures ∙ c.if-is_step_at.true) in
+    (full_ahead input c.args.at c.args.room _ (step_found input c.args.at there) c.if-room-lt-LONGEST.true, tt)
+
+pub read16-requires : goal.read16-requires
+read16-requires c =
+    let input = c.args.input.now in
+    let there = step_there_lem input c.args.at (low input c.args.at (λ (k : ℕ). omega (arith, c.shared_slice_known-1.given k))) (sym c.is_step_at.ensures ∙ c.if-is_step_at.true) in
+    omega (arith, there.inside)
+
+pub returns-then-is_step_at : goal.returns-then-is_step_at
+returns-then-is_step_at c =
+    let input = c.args.input.now in
+    let there = step_there_lem input c.args.at (low input c.args.at (λ (k : ℕ). omega (arith, c.shared_slice_known-1.given k))) (sym c.is_step_at.ensures ∙ c.if-is_step_at.true) in
+    subst (λ (t : ℕ). (Ahead.Step t ≡ ahead_of input c.args.at c.args.room) × AheadInside input c.args.at c.args.room (Ahead.Step t)) (sym c.read16.ensures.0)
+    (step_ahead input c.args.at there c.args.room c.if-room-lt-LONGEST.false)
+
+pub returns-in-End : goal.returns-in-End
+returns-in-End c =
+    let found = sym c.next_frame-next.ensures.0 ∙ c.in-End.is in
+    (end_ahead c.args.input.now c.args.at c.args.room _ found, tt)
+
+pub returns-then-room-lt-LONGEST-2 : goal.returns-then-room-lt-LONGEST-2
+returns-then-room-lt-LONGEST-2 c =
+    let found = sym c.next_frame-next.ensures.0 ∙ c.in-Frame.is in
+    (full_ahead c.args.input.now c.args.at c.args.room _ found c.if-room-lt-LONGEST-2.true, tt)
+
+pub returns-else-room-lt-LONGEST-2 : goal.returns-else-room-lt-LONGEST-2
+returns-else-room-lt-LONGEST-2 c =
+    let input = c.args.input.now in
+    let next = c.next_frame-next.ensures in
+    let given = c.in-Frame.is in
+    let inside = subst (NextInside input c.args.at) given next.1 in
+    other_ahead input c.args.at c.args.room _ (sym c.is_step_at.ensures ∙ c.if-is_step_at.false) (sym next.0 ∙ given) inside.0 inside.1 c.if-room-lt-LONGEST-2.false

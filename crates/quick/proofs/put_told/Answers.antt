@@ -1,0 +1,21 @@
+-- `quick::put_told` meets its contract: two stores of four bytes, of which the last two stay where six are told.
+use native.Mathlib.Omega.{arith}
+use lib.Dec.{eqb}
+use Rattle.quick.proofs.Telling.{told_by_lem}
+use borrow.Author.Rules.{rules}
+use Rattle.quick.proofs.put_told.Goals as goal
+
+pub returns : goal.returns
+returns c =
+    let long = c.chosen_count in
+    let fields = c.chosen_long-fields in
+    let head = c.chosen_long-head in
+    let inner = c.chosen_long in
+    let many = c.chosen_count-many in
+    let kept = c.read16-kept in
+    let start = entry.before in
+    let args = start.args in
+    told_by_lem args.out.now c.put32.new.out c.put32-2.new.out args.at (eqb args.after.done args.after.n) args.claims args.after
+    kept.result many.result inner.result head.result fields.result long.result
+    (omega (arith, start.requires.inside, start.requires.room)) (λ k. omega (arith, c.slice-known.given k)) (omega (arith, many.type-inv))
+    kept.ensures.0 many.ensures inner.ensures head.ensures fields.ensures c.put32.ensures c.put32-2.ensures long.ensures

@@ -1,0 +1,37 @@
+-- `ranks::load` meets its contract: the checks are made in the order of the refusals.
+use borrow.Author.Tests.{not-true, not-false}
+use mathlib.Core.Path.{◌≡◌, refl, sym, ap, ◌∙◌}
+use mathlib.Core.Bool.{true, false}
+use native.Mathlib.Omega.{arith}
+use Rattle.legs.specs.Positions.{is_permutation}
+use Rattle.tickets.specs.Table.{table_of}
+use Rattle.calls.specs.Call.{book_length_wrong}
+use Rattle.calls.specs.Outcomes.{ticket_stands}
+use Rattle.calls.specs.declared.Outcome.TheVariants as Outcome
+use Rattle.ranks.proofs.Loading.{load_is, book_wrong_lem, book_right, permutation_long}
+use borrow.Author.Rules.{rules}
+use Rattle.ranks.proofs.load.Goals as goal
+
+pub returns-then-book-ne-WORDS : goal.returns-then-book-ne-WORDS
+returns-then-book-ne-WORDS c =
+    sym (load_is c.args.book.now (table_of c.args.tickets) c.args.ranks.now c.args.loaded.now true (is_permutation c.args.loaded.now) (ticket_stands (table_of c.args.tickets)) (book_wrong_lem c.args.book.now c.if-book-ne-WORDS.true) refl refl)
+
+pub returns-then-not-is_permutation : goal.returns-then-not-is_permutation
+returns-then-not-is_permutation c =
+    sym (load_is c.args.book.now (table_of c.args.tickets) c.args.ranks.now c.args.loaded.now false false (ticket_stands (table_of c.args.tickets)) (book_right c.args.book.now (omega (arith, c.if-book-ne-WORDS.false)))
+    (sym c.is_permutation.ensures ∙ not-true _ c.if-not-is_permutation.true-raw) refl)
+
+pub returns-then-any_stands : goal.returns-then-any_stands
+returns-then-any_stands c =
+    sym (load_is c.args.book.now (table_of c.args.tickets) c.args.ranks.now c.args.loaded.now false true true (book_right c.args.book.now (omega (arith, c.if-book-ne-WORDS.false)))
+    (sym c.is_permutation.ensures ∙ not-false _ c.if-not-is_permutation.false-raw) (sym (c.any_stands.ensures c.args.tickets.targets) ∙ c.if-any_stands.true))
+
+pub take_over-requires : goal.take_over-requires
+take_over-requires c =
+    permutation_long c.args.loaded.now (sym c.is_permutation.ensures ∙ not-false _ c.if-not-is_permutation.false-raw)
+
+pub returns : goal.returns
+returns c =
+    (λ i. (Outcome.Done, c.take_over.ensures i))
+    ∙ sym (load_is c.args.book.now (table_of c.args.tickets) c.args.ranks.now c.args.loaded.now false true false (book_right c.args.book.now (omega (arith, c.if-book-ne-WORDS.false)))
+    (sym c.is_permutation.ensures ∙ not-false _ c.if-not-is_permutation.false-raw) (sym (c.any_stands.ensures c.args.tickets.targets) ∙ c.if-any_stands.false))

@@ -1,0 +1,15 @@
+use mathlib.Core.Path.{◌≡◌, refl, sym, ap, ◌∙◌}
+use Prim.Native.Nat.{ℕ, ◌+◌, ◌-◌, ◌*◌, ◌≤◌, ◌<◌}
+use native.Mathlib.Omega.{arith}
+use lib.Count.{ones, ones-le}
+use lib.ListN.{length, get_or, take}
+use lib.Seq.{take_all}
+use Rattle.sound.specs.Bits.{ones_of}
+use Rattle.sound.proofs.Bits.{ones_start, ones_next}
+use Rattle.sound.proofs.count_ones.Given as goal
+
+abbrev pub invariant-loop-i : goal.invariant-loop-i
+invariant-loop-i l = (l.i ≤ length l.bits) × (l.total ≡ ones_of (take l.i l.bits)) × (l.total ≤ 8 * l.i)
+
+abbrev pub decreases-loop-i : goal.decreases-loop-i
+decreases-loop-i l = length l.bits - l.i

@@ -1,0 +1,17 @@
+use mathlib.Core.Path.{◌≡◌, sym, ap, subst, ◌∙◌}
+use mathlib.Core.Bool.{true}
+use mathlib.Core.List.{List}
+use Prim.Native.Nat.{ℕ, ◌+◌, ◌-◌, ◌≤◌}
+use native.Mathlib.Omega.{arith}
+use borrow.Author.Tests.{not-true, not-false}
+use Rattle.words.specs.Words.{last_leg_in}
+use Rattle.soundness.specs.Checking.{rest_zero}
+use Rattle.soundness.proofs.Walking.{rest_none, rest_next, rest_off}
+use Rattle.sound.specs.Bits.{Marked}
+use Rattle.sound.proofs.rest_zero.Given as goal
+
+abbrev pub invariant-loop-done : goal.invariant-loop-done
+invariant-loop-done l = (l.done ≤ l.last) × ((used : List ℕ) → Marked l.layout l.bits used → rest_zero l.layout l.book used l.done ≡ true)
+
+abbrev pub decreases-loop-done : goal.decreases-loop-done
+decreases-loop-done l = l.last - l.done

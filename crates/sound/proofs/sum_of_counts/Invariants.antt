@@ -1,0 +1,14 @@
+use mathlib.Core.Path.{◌≡◌, refl, sym, ap, subst, ◌∙◌}
+use Prim.Native.Nat.{ℕ, ◌+◌, ◌-◌, ◌*◌, ◌≤◌}
+use native.Mathlib.Omega.{arith}
+use Rattle.words.specs.declared.LegLayout.TheVariants.{ThreeWords}
+use Rattle.words.specs.Words.{passage_count, last_leg_in, count_word, read_of}
+use Rattle.soundness.specs.Checking.{counts_below}
+use Rattle.soundness.proofs.Walking.{counts_none, counts_next}
+use Rattle.sound.proofs.sum_of_counts.Given as goal
+
+abbrev pub invariant-loop-passage : goal.invariant-loop-passage
+invariant-loop-passage l = (l.passage ≤ passage_count) × (l.sum ≡ counts_below l.book l.passage) × (l.sum ≤ last_leg_in ThreeWords * l.passage)
+
+abbrev pub decreases-loop-passage : goal.decreases-loop-passage
+decreases-loop-passage l = passage_count - l.passage

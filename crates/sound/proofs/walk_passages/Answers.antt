@@ -1,0 +1,34 @@
+-- `sound::walk_passages` meets its contract: the passages so far are walked, and the bits are those of the legs used.
+use mathlib.Core.List.{[]}
+use Prim.Native.Nat.{◌-◌, ◌≤◌}
+use native.Mathlib.Omega.{arith}
+use borrow.Author.Tests.{not-true, not-false}
+use Rattle.words.specs.Words.{passage_count}
+use Rattle.soundness.proofs.Walking.{below_none}
+use Rattle.sound.proofs.Bits.{Reached, reached_on, reached_off, reached_all}
+use borrow.Author.Rules.{rules}
+use Rattle.sound.proofs.walk_passages.Goals as goal
+
+pub loop-passage-init : goal.loop-passage-init
+loop-passage-init c = (omega arith, record { used = []; marked = c.requires.1; same = below_none _ _ })
+
+pub walk_passage-requires : goal.walk_passage-requires
+walk_passage-requires c = ((c.requires.0, c.loop-passage.invariant.1.marked.room), omega arith)
+
+pub returns-then-not-walk_passage : goal.returns-then-not-walk_passage
+returns-then-not-walk_passage c =
+    let loop = c.loop-passage in
+    let args = c.args in
+    reached_off args.layout args.book.now loop.bits _ loop.passage c.walk_passage.result loop.invariant.1 (c.walk_passage.ensures loop.invariant.1.used loop.invariant.1.marked) (not-true _ c.if-not-walk_passage.true-raw) passage_count (omega arith)
+
+pub loop-passage-preserved : goal.loop-passage-preserved
+loop-passage-preserved c =
+    let loop = c.loop-passage in
+    let args = c.args in
+    (omega arith, reached_on args.layout args.book.now loop.bits _ loop.passage c.walk_passage.result loop.invariant.1 (c.walk_passage.ensures loop.invariant.1.used loop.invariant.1.marked) (not-false _ c.if-not-walk_passage.false-raw))
+
+pub returns : goal.returns
+returns c =
+    let loop = c.loop-passage in
+    let args = c.args in
+    reached_all args.layout args.book.now loop.bits loop.passage loop.invariant.1 passage_count (omega arith)
