@@ -30,12 +30,14 @@ both_behind first second [] between older = inl (refl, in_behind second between 
 both_behind first second (one ∷ newer) between older = inr (both_behind first second newer between older)
 
 contains : (leg : NumberedLeg) (legs : List NumberedLeg) → In leg legs → Contains legs leg
+contains leg [] x = elim x [ ]
 contains leg (one ∷ older) (inl same) = record { newer = []; older = older; parted = ap (λ a. a ∷ older) (sym same) }
 contains leg (one ∷ older) (inr there) =
     let rest = contains leg older there in
     record { newer = one ∷ rest.newer; older = rest.older; parted = ap (λ l. one ∷ l) rest.parted }
 
 contains_both : (first second : NumberedLeg) (legs : List NumberedLeg) → InBoth first second legs → ContainsBoth legs first second
+contains_both first second [] x = elim x [ ]
 contains_both first second (one ∷ older) (inl (same, there)) =
     let rest = contains second older there in
     record { newer = []; between = rest.newer; older = rest.older; parted = λ i. sym same i ∷ rest.parted i }
@@ -62,6 +64,7 @@ both_append first second (one ∷ a) b (inr there) = elim (both_append first sec
 module _ (station : ℕ) where
   in_those : (leg : NumberedLeg) (legs : List NumberedLeg) → In leg (those_meeting station legs) → In leg legs
   unfolding those_meeting
+  in_those leg [] there = elim there [ ]
   in_those leg (one ∷ older) there = by (meets station one) (in_those leg older) there
     where
       by : (b : Bool) → (In leg (those_meeting station older) → In leg older) → In leg (cond b (one ∷ those_meeting station older) (those_meeting station older)) → In leg (one ∷ older)
@@ -71,6 +74,7 @@ module _ (station : ℕ) where
 
   both_those : (first second : NumberedLeg) (legs : List NumberedLeg) → InBoth first second (those_meeting station legs) → InBoth first second legs
   unfolding those_meeting
+  both_those first second [] there = elim there [ ]
   both_those first second (one ∷ older) there = by (meets station one) (both_those first second older) there
     where
       by : (b : Bool) → (InBoth first second (those_meeting station older) → InBoth first second older)
@@ -81,6 +85,7 @@ module _ (station : ℕ) where
 
   in_list : (leg : NumberedLeg) (lists : Plain) → In leg (legs_at station lists) → (p : ℕ) × In leg (list_of lists p)
   unfolding legs_at
+  in_list leg [] there = elim there [ ]
   in_list leg (legs ∷ lists) there = elim (in_append leg (those_meeting station legs) (legs_at station lists) there) [
     | inl h ↦ (0, in_those leg legs h)
     | inr h ↦ let (p, inside) = in_list leg lists h in (suc p, inside)
@@ -89,6 +94,7 @@ module _ (station : ℕ) where
   both_in_lists : (first second : NumberedLeg) (lists : Plain) → InBoth first second (legs_at station lists)
       → ((p q : ℕ) × (p < q) × In first (list_of lists p) × In second (list_of lists q)) ⊎ ((p : ℕ) × InBoth first second (list_of lists p))
   unfolding legs_at
+  both_in_lists first second [] there = elim there [ ]
   both_in_lists first second (legs ∷ lists) there = elim (both_append first second (those_meeting station legs) (legs_at station lists) there) [
     | inl h ↦ inr (0, both_those first second legs h)
     | inr (inl h) ↦ let (q, inside) = in_list second lists h.1 in inl (0, suc q, suc-le-suc zero-le, in_those first legs h.0, inside)

@@ -13,9 +13,8 @@ returns c =
     let inner = c.chosen_long in
     let many = c.chosen_count-many in
     let kept = c.read16-kept in
-    let start = entry.before in
-    let args = start.args in
+    let args = c.args in
     told_by_lem args.out.now c.put32.new.out c.put32-2.new.out args.at (eqb args.after.done args.after.n) args.claims args.after
     kept.result many.result inner.result head.result fields.result long.result
-    (omega (arith, start.requires.inside, start.requires.room)) (λ k. omega (arith, c.slice-known.given k)) (omega (arith, many.type-inv))
+    (omega (arith, c.requires.inside, c.requires.room)) (λ k. omega (arith, c.slice_known-1.given k)) (omega (arith, many.type_inv))
     kept.ensures.0 many.ensures inner.ensures head.ensures fields.ensures c.put32.ensures c.put32-2.ensures long.ensures

@@ -10,7 +10,7 @@ use borrow.Author.Rules.{rules}
 use Rattle.ranks.proofs.take_over.Goals as goal
 
 pub loop-k-init : goal.loop-k-init
-loop-k-init c = (c.whole-2-1.given.0, c.requires, omega arith, λ i below. absurd (omega arith))
+loop-k-init c = (c.whole-2-1.given, c.requires, omega arith, λ i below. absurd (omega arith))
 
 pub loop-k-preserved : goal.loop-k-preserved
 loop-k-preserved c =

@@ -16,21 +16,20 @@ returns-then-not-walk_passages c =
 
 pub count_ones-requires : goal.count_ones-requires
 count_ones-requires c =
-    let args = walked.before.before.before.before.before.before.before.before.args in
-    went_room args.layout c.walk-passages.result _ _ (not-false _ c.if1.false) c.walk-passages.ensures
+    let args = c.args in
+    went_room args.layout c.walk_passages.result _ _ (not-false _ c.if-not-walk_passages.false-raw) c.walk_passages.ensures
 
 pub sum_of_counts-requires : goal.sum_of_counts-requires
 sum_of_counts-requires c =
-    let start = walked.before.before.before.before.before.before.before.before in
-    (start.requires.0, counts_fit start.args.layout start.args.book.now c.walk-passages.result _ (not-false _ c.if1.false) c.walk-passages.ensures)
+    (c.requires.0, counts_fit c.args.layout c.args.book.now c.walk_passages.result _ (not-false _ c.if-not-walk_passages.false-raw) c.walk_passages.ensures)
 
 pub returns-then-count_ones-sum_of_counts : goal.returns-then-count_ones-sum_of_counts
 returns-then-count_ones-sum_of_counts c =
-    let args = walked.before.before.before.before.before.before.before.before.args in
-    sound_uncounted args.layout args.book.now c.walk-passages.result _ (not-false _ c.if1.false) c.walk-passages.ensures
+    let args = c.args in
+    sound_uncounted args.layout args.book.now c.walk_passages.result _ (not-false _ c.if-not-walk_passages.false-raw) c.walk_passages.ensures
     (λ equal. c.if-count_ones-sum_of_counts.true (c.count_ones.ensures.0 ∙ equal ∙ sym c.sum_of_counts.ensures))
 
 pub returns : goal.returns
 returns c =
-    let args = walked.before.before.before.before.before.before.before.before.args in
-    sound_through args.layout args.book.now c.walk-passages.result _ (not-false _ c.if1.false) c.walk-passages.ensures c.rest_zero.result c.rest_zero.ensures
+    let args = c.args in
+    sound_through args.layout args.book.now c.walk_passages.result _ (not-false _ c.if-not-walk_passages.false-raw) c.walk_passages.ensures c.rest_zero.result c.rest_zero.ensures

@@ -19,35 +19,34 @@ loop-left-init c = (c.requires.1, λ used marked. record { used = used; marked =
 
 pub returns-then-not-may_follow : goal.returns-then-not-may_follow
 returns-then-not-may_follow c =
-    let loop = c.loop in
-    let args = more.before.before.before.before.args in
-    λ used marked. walking_off args.layout args.book.now loop.bits args.passage loop.left loop.newer loop.leg _ (loop.invariant.1 used marked) c.loop-test.true
+    let loop = c.loop-left in
+    let args = c.args in
+    λ used marked. walking_off args.layout args.book.now loop.bits args.passage loop.left loop.newer loop.leg _ (loop.invariant.1 used marked) c.loop-left-test.true
     (λ now-used now-marked. sym (c.may_follow.ensures.test now-used now-marked) ∙ not-true _ c.if-not-may_follow.true-raw)
 
 pub overflow_cast-number : goal.overflow_cast-number
 overflow_cast-number c =
-    let args = tested.before.before.before.before.before.before.args in
+    let args = c.args in
     omega (arith, leg_fits args.layout _ (c.may_follow.ensures.bounds (not-false _ c.if-not-may_follow.false-raw)).1)
 
 pub mark-requires : goal.mark-requires
 mark-requires c =
-    let args = at-loop.before.before.before.args in
+    let args = c.args in
     let bounds = c.may_follow.ensures.bounds (not-false _ c.if-not-may_follow.false-raw) in
-    (bounds.0, subst (λ (long : ℕ). byte_of c.loop.leg < long) (sym c.loop.invariant.0) (byte_inside args.layout c.loop.leg bounds.0 bounds.1))
+    (bounds.0, subst (λ (long : ℕ). byte_of c.loop-left.leg < long) (sym c.loop-left.invariant.0) (byte_inside args.layout c.loop-left.leg bounds.0 bounds.1))
 
 pub link_word_in-requires : goal.link_word_in-requires
 link_word_in-requires c = c.may_follow.ensures.bounds (not-false _ c.if-not-may_follow.false-raw)
 
 pub bounds-book-link_word_in : goal.bounds-book-link_word_in
 bounds-book-link_word_in c =
-    let start = at-loop.before.before.before in
     let bounds = c.may_follow.ensures.bounds (not-false _ c.if-not-may_follow.false-raw) in
-    omega (arith, three_inside start.args.layout c.loop.leg c.link_word_in.result c.link_word_in.ensures bounds.0 bounds.1, start.requires.0)
+    omega (arith, three_inside c.args.layout c.loop-left.leg c.link_word_in.result c.link_word_in.ensures bounds.0 bounds.1, c.requires.0)
 
 pub loop-left-preserved : goal.loop-left-preserved
 loop-left-preserved c =
-    let loop = c.loop in
-    let args = more.before.before.before.before.args in
+    let loop = c.loop-left in
+    let args = c.args in
     let book = args.book.now in
     let whole : List ℕ → Option (List ℕ) = λ used. walk args.layout book args.passage args.count 0 args.newest used in
     let bounds = c.may_follow.ensures.bounds (not-false _ c.if-not-may_follow.false-raw) in
@@ -56,7 +55,7 @@ loop-left-preserved c =
       λ used marked.
           subst (λ (l : List ℕ). Walking args.layout book l args.passage (loop.left - 1) loop.leg (read_of book c.link_word_in.result) (whole used)) (sym marks)
           (subst (λ (at : ℕ). Walking args.layout book (with_bit loop.bits loop.leg) args.passage (loop.left - 1) loop.leg (read_of book at) (whole used)) (sym c.link_word_in.ensures)
-          (walking_on args.layout book loop.bits args.passage loop.left loop.newer loop.leg _ (loop.invariant.1 used marked) c.loop-test.true bounds.0 bounds.1
+          (walking_on args.layout book loop.bits args.passage loop.left loop.newer loop.leg _ (loop.invariant.1 used marked) c.loop-left-test.true bounds.0 bounds.1
           (λ now-used now-marked. sym (c.may_follow.ensures.test now-used now-marked) ∙ not-false _ c.if-not-may_follow.false-raw))),
     )
 

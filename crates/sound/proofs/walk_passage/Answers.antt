@@ -10,7 +10,7 @@ pub returns-then-last_leg_in-count : goal.returns-then-last_leg_in-count
 returns-then-last_leg_in-count c =
     let args = c.args in
     let above : last_leg_in args.layout < read_of args.book.now c.count_word.result = omega (arith, c.if-last_leg_in-count.true, c.last_leg_in.ensures) in
-    λ used marked. went_above args.layout args.book.now args.passage _ used _ c.count_word.ensures above
+    λ used marked. went_above args.layout args.book.now args.passage args.bits.now used _ c.count_word.ensures above
 
 pub returns : goal.returns
 returns c =

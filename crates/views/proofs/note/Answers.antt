@@ -8,4 +8,4 @@ use Rattle.views.proofs.note.Goals as goal
 pub returns : goal.returns
 returns c =
     let args = c.args in
-    record { noted = ap (λ (at : ℕ). set args.targets.now (at + 1) args.found) c.place-at.ensures.0; long = c.whole-2-1.given.0 }
+    record { noted = ap (λ (at : ℕ). set args.targets.now (at + 1) args.found) c.place-at.ensures.0; long = c.whole-2-1.given }

@@ -10,56 +10,50 @@ use Rattle.views.proofs.view_claim.Goals as goal
 
 pub target_at-target-requires : goal.target_at-target-requires
 target_at-target-requires c =
-    let start = c.before.before.before in
-    let args = start.args in
-    let unclaimed = next_unclaimed args.book.now args.targets.now args.slot args.ticket args.out.now args.at start.requires in
-    target_asked args.targets.now args.slot args.ticket start.requires.steps_in.made start.requires.steps_in.team_known args.ticket.claimed unclaimed
+    let args = c.args in
+    let unclaimed = next_unclaimed args.book.now args.targets.now args.slot args.ticket args.out.now args.at c.requires in
+    target_asked args.targets.now args.slot args.ticket c.requires.steps_in.made c.requires.steps_in.team_known args.ticket.claimed unclaimed
 
 pub swap_any_value-report-requires : goal.swap_any_value-report-requires
 swap_any_value-report-requires c =
     let target = c.target_at-target in
-    let start = c.before.before.before.before.before.before.before in
-    let args = start.args in
-    let unclaimed = next_unclaimed args.book.now args.targets.now args.slot args.ticket args.out.now args.at start.requires in
-    target_inside Viewing args.book.now args.targets.now args.slot args.ticket args.out.now args.at start.requires args.ticket.claimed unclaimed target.result target.ensures
+    let args = c.args in
+    let unclaimed = next_unclaimed args.book.now args.targets.now args.slot args.ticket args.out.now args.at c.requires in
+    target_inside Viewing args.book.now args.targets.now args.slot args.ticket args.out.now args.at c.requires args.ticket.claimed unclaimed target.result target.ensures
 
 pub returns-then-is_held : goal.returns-then-is_held
 returns-then-is_held c =
     let mark = c.mark-mark in
     let target = c.target_at-target in
-    let start = c.before.before.before.before.before.before.before.before.before.before.before.before.before.before.before.before in
-    let args = start.args in
+    let args = c.args in
     let targets = args.targets.now in
     record {
-      left = view_waits args.book.now targets args.slot args.ticket args.out.now args.at start.requires target.result mark.result c.swap_any_value-report.result.found c.swap_any_value-report.new.book c.waited.result.ticket c.waited.result.filled c.waited.new.out
+      left = view_waits args.book.now targets args.slot args.ticket args.out.now args.at c.requires target.result mark.result c.swap_any_value-report.result.found c.swap_any_value-report.new.book c.waited.result.ticket c.waited.result.filled c.waited.new.out
           target.ensures mark.ensures c.swap_any_value-report.ensures.found c.swap_any_value-report.ensures.words (sym c.is_held.ensures ∙ c.if-is_held.true) c.waited.ensures.ticket c.waited.ensures.answer;
       others = nothing_elsewhere targets args.slot;
     }
 
 pub note-requires : goal.note-requires
 note-requires c =
-    let start = c.before.before.before.before.before.before.before.before.before.before.before.before.before in
-    let args = start.args in
-    let unclaimed = next_unclaimed args.book.now args.targets.now args.slot args.ticket args.out.now args.at start.requires in
-    (start.requires.steps_in.team_known, omega (arith, unclaimed, few_targets args.targets.now args.slot args.ticket start.requires.steps_in.made))
+    let args = c.args in
+    let unclaimed = next_unclaimed args.book.now args.targets.now args.slot args.ticket args.out.now args.at c.requires in
+    (c.requires.steps_in.team_known, omega (arith, unclaimed, few_targets args.targets.now args.slot args.ticket c.requires.steps_in.made))
 
 pub claim-after-requires : goal.claim-after-requires
 claim-after-requires c =
-    let start = c.before.before.before.before.before.before.before.before.before.before.before.before.before.before in
-    (phase_tells start.args.ticket Viewing start.requires.phase_known).1
+    (phase_tells c.args.ticket Viewing c.requires.phase_known).1
 
 pub returns : goal.returns
 returns c =
     let test = c.is_held in
     let mark = c.mark-mark in
     let target = c.target_at-target in
-    let start = c.before.before.before.before.before.before.before.before.before.before.before.before.before.before.before.before.before.before.before in
-    let args = start.args in
+    let args = c.args in
     let targets = args.targets.now in
-    let unclaimed = next_unclaimed args.book.now targets args.slot args.ticket args.out.now args.at start.requires in
-    let few = few_targets targets args.slot args.ticket start.requires.steps_in.made in
+    let unclaimed = next_unclaimed args.book.now targets args.slot args.ticket args.out.now args.at c.requires in
+    let few = few_targets targets args.slot args.ticket c.requires.steps_in.made in
     record {
-      left = view_notes args.book.now targets args.slot args.ticket args.out.now args.at start.requires target.result mark.result c.swap_any_value-report.result.found c.swap_any_value-report.new.book c.claim-after.result c.put_claimed-filled.result c.put_claimed-filled.new.out
-          target.ensures mark.ensures c.swap_any_value-report.ensures.found c.swap_any_value-report.ensures.words c.note.new.targets (sym test.ensures ∙ c.if-is_held.false) (omega (arith, unclaimed, few, start.requires.steps_in.team_known, c.note.ensures.long)) c.note.ensures.noted c.claim-after.ensures.slot c.put_claimed-filled.ensures;
+      left = view_notes args.book.now targets args.slot args.ticket args.out.now args.at c.requires target.result mark.result c.swap_any_value-report.result.found c.swap_any_value-report.new.book c.claim-after.result c.put_claimed-filled.result c.put_claimed-filled.new.out
+          target.ensures mark.ensures c.swap_any_value-report.ensures.found c.swap_any_value-report.ensures.words c.note.new.targets (sym test.ensures ∙ c.if-is_held.false) (omega (arith, unclaimed, few, c.requires.steps_in.team_known, c.note.ensures.long)) c.note.ensures.noted c.claim-after.ensures.slot c.put_claimed-filled.ensures;
       others = noted_elsewhere targets c.note.new.targets args.slot args.ticket.claimed c.swap_any_value-report.result.found (omega (arith, unclaimed, few)) c.note.ensures.noted;
     }
