@@ -3,6 +3,8 @@
 // Every number has its low byte first. A word not given is 0, and what comes behind the last whole case is passed over.
 // The scratch is a part of a larger buffer, which is full of other bytes: if one changed that is not the check's to write,
 // the line ends with ` spoiled`.
+#![tactic(auto)]
+
 ghost use Rattle.std.specs.Prelude.{◌+◌, ◌≤◌, ◌<◌, length};
 
 use desk::{Given, Room, at_most, say};

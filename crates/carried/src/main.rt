@@ -6,6 +6,8 @@
 // comes behind the last whole case is passed over.
 //
 // A case's lines: `carried` or `refused` with the number, and each word of the second that has changed.
+#![tactic(auto)]
+
 ghost use Rattle.std.specs.Prelude.{◌+◌, ◌*◌, ◌≤◌, ◌<◌, length};
 ghost use Rattle.words.specs.Words.{team_count};
 ghost use Rattle.tickets.specs.Table.{target_room};

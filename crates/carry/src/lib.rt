@@ -1,4 +1,6 @@
 // The carry-over of an old book, in which a leg has three words, into a second one, in which it has four.
+#![tactic(auto)]
+
 ghost use Rattle.std.specs.Prelude.{◌≡◌, true, ℕ, ◌≤◌, ◌<◌, length};
 ghost use Rattle.words.specs.declared.LegLayout.TheVariants.{ThreeWords};
 ghost use Rattle.words.specs.Words.{words_in_book, last_leg};

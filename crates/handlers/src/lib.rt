@@ -1,5 +1,7 @@
 // What each frame does to its slot, and its answer at a place of the output: a step that does not go the fast way, an edit or
 // a view that opens a ticket, a look, a refusal.
+#![tactic(auto)]
+
 ghost use Rattle.std.specs.Prelude.{◌≡◌, true, false, ◌-◌, ◌≤◌, ◌<◌, length};
 ghost use Rattle.words.specs.Words.{words_in_book, team_count};
 ghost use Rattle.legs.specs.Positions.{Accepted};

@@ -1,4 +1,6 @@
 // The list of a station, written into an output that has room for it: the legs, and the pairs of passages.
+#![tactic(auto)]
+
 ghost use Rattle.std.specs.Prelude.{◌≡◌, [], ◌∷◌, ◌+◌, ◌≤◌, ◌<◌, length};
 ghost use Rattle.words.specs.declared.LegLayout.TheVariants.{FourWords};
 ghost use Rattle.words.specs.Words.{words_in_book, passage_count, last_leg};

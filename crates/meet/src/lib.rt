@@ -1,4 +1,6 @@
 // Where passages meet: the list of a station, written into a lent output.
+#![tactic(auto)]
+
 ghost use Rattle.std.specs.Prelude.{◌≡◌, ◌≤◌, length};
 ghost use Rattle.words.specs.declared.LegLayout.TheVariants.{FourWords};
 ghost use Rattle.soundness.specs.InWords.{plain_in};

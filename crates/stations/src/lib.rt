@@ -1,4 +1,6 @@
 // The legs of a book at a station: whether a leg is there, how many of each passage are, and how long their list is.
+#![tactic(auto)]
+
 ghost use Rattle.std.specs.Prelude.{◌≡◌, [], ◌∷◌, ◌+◌, ◌*◌, ◌≤◌, ◌<◌, length};
 ghost use Rattle.words.specs.declared.LegLayout.TheVariants.{FourWords};
 ghost use Rattle.words.specs.Words.{words_in_book, passage_count, last_leg};

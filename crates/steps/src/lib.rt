@@ -1,4 +1,6 @@
 // One step of a standing, well-made ticket: its swap made, and its answer put at a place of the output. One look.
+#![tactic(auto)]
+
 ghost use Rattle.std.specs.Prelude.{◌≡◌, ◌<◌, length};
 ghost use Rattle.tickets.specs.Steps.{step_of, look_of};
 ghost use Rattle.tickets.specs.Table.{gathered, ElsewhereSame};

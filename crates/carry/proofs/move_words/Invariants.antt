@@ -1,0 +1,17 @@
+use mathlib.Core.Path.{◌≡◌, sym, ap, ◌∙◌}
+use Prim.Native.Nat.{ℕ, ◌+◌, ◌-◌, ◌≤◌, ◌<◌}
+use native.Mathlib.Omega.{arith}
+use lib.ListN.{length, get_or, set, length-set}
+use lib.Seq.{ext_get_or}
+use Rattle.words.specs.Words.{Words, words_in_book}
+use Rattle.words.proofs.Copying.{SameUpTo, same_more}
+use Rattle.carrying.specs.Carrying.{words_from}
+use Rattle.carrying.proofs.Carrying.{length_from, read_whole}
+use Rattle.carry.specs.Writing.{moved_word}
+use Rattle.carry.proofs.move_words.Given as goal
+
+abbrev pub invariant-loop-word : goal.invariant-loop-word
+invariant-loop-word l = (l.word ≤ words_in_book) × (length l.second ≡ words_in_book) × SameUpTo l.word l.second (words_from (moved_word l.old) 0 words_in_book)
+
+abbrev pub decreases-loop-word : goal.decreases-loop-word
+decreases-loop-word l = words_in_book - l.word

@@ -1,0 +1,7 @@
+-- `handlers::known_well_made` meets its contract: known, or tested.
+use Rattle.handlers.proofs.Cases.{known_passes}
+use borrow.Author.Rules.{rules}
+use Rattle.handlers.proofs.known_well_made.Goals as goal
+
+pub returns-then-known : goal.returns-then-known
+returns-then-known c = known_passes _ (c.requires.1 c.if-known.true)

@@ -1,0 +1,68 @@
+-- `handlers::other_step` meets its contract: a claim that missed, refusal 9 or 7, or the step.
+use mathlib.Core.Path.{refl, sym, ◌∙◌}
+use mathlib.Core.Bool.{true, false, false≢true}
+use borrow.Author.Tests.{not-true, not-false}
+use Rattle.tickets.specs.Table.{gathered}
+use Rattle.handlers.proofs.Cases.{stands_has, stands_not, passes_made, steps_none, steps_badly, step_refused, step_left, same_there}
+use borrow.Author.Rules.{rules}
+use Rattle.handlers.proofs.other_step.Goals as goal
+
+pub missed-requires : goal.missed-requires
+missed-requires c = c.requires.2 c.if-tried.true
+
+pub returns-then-tried : goal.returns-then-tried
+returns-then-tried c =
+    let targets = c.args.targets.now in
+    record {
+      others = same_there targets c.args.slot;
+      whole = refl;
+      missed = λ claims. (refl, refl, c.missed.ensures);
+      made = λ none. absurd (false≢true (sym none ∙ c.if-tried.true));
+    }
+
+pub returns-then-not-stands : goal.returns-then-not-stands
+returns-then-not-stands c =
+    let targets = c.args.targets.now in
+    let book = c.args.book.now in
+    record {
+      others = same_there targets c.args.slot;
+      whole = refl;
+      missed = λ claims. absurd (false≢true (sym c.if-tried.false ∙ claims));
+      made = λ none. step_refused book targets c.args.slot c.args.ticket _ 9 _ _ _ _ c.refuse.ensures.0 (steps_none book (gathered targets c.args.slot c.args.ticket) c.args.slot (stands_not targets c.args.slot c.args.ticket (sym c.stands.ensures ∙ not-true _ c.if-not-stands.true-raw))) c.refuse.ensures.1;
+    }
+
+pub returns-then-not-known_well_made : goal.returns-then-not-known_well_made
+returns-then-not-known_well_made c =
+    let targets = c.args.targets.now in
+    let book = c.args.book.now in
+    record {
+      others = same_there targets c.args.slot;
+      whole = refl;
+      missed = λ claims. absurd (false≢true (sym c.if-tried.false ∙ claims));
+      made = λ none. step_refused book targets c.args.slot c.args.ticket _ 7 _ _ _ _ c.refuse-then-not-known_well_made.ensures.0 (let stands = sym c.stands.ensures ∙ not-false _ c.if-not-stands.false-raw in steps_badly book (gathered targets c.args.slot c.args.ticket) c.args.slot (stands_has targets c.args.slot c.args.ticket stands) (passes_made targets c.args.slot c.args.ticket false stands (sym c.known_well_made.ensures ∙ not-true _ c.if-not-known_well_made.true-raw))) c.refuse-then-not-known_well_made.ensures.1;
+    }
+
+pub step-requires : goal.step-requires
+step-requires c =
+    let targets = c.args.targets.now in
+    let stands = sym c.stands.ensures ∙ not-false _ c.if-not-stands.false-raw in
+    record {
+      book = c.requires.0;
+      team_known = c.requires.1;
+      made = passes_made targets c.args.slot c.args.ticket true stands (sym c.known_well_made.ensures ∙ not-false _ c.if-not-known_well_made.false-raw);
+      inside = c.requires.4.inside;
+      room = c.requires.4.room;
+    }
+
+pub returns : goal.returns
+returns c =
+    let targets = c.args.targets.now in
+    let book = c.args.book.now in
+    let stands = sym c.stands.ensures ∙ not-false _ c.if-not-stands.false-raw in
+    let made = passes_made targets c.args.slot c.args.ticket true stands (sym c.known_well_made.ensures ∙ not-false _ c.if-not-known_well_made.false-raw) in
+    record {
+      others = c.step.ensures.others;
+      whole = search rules;
+      missed = λ claims. absurd (false≢true (sym c.if-tried.false ∙ claims));
+      made = λ none. step_left book targets _ c.args.slot c.args.ticket _ _ _ _ _ _ (stands_has targets c.args.slot c.args.ticket stands) made c.step.ensures.left;
+    }

@@ -1,0 +1,47 @@
+-- `listing::write_legs` meets its contract: the passages that are left, written from here on, give what the whole gives.
+use mathlib.Core.Path.{subst}
+use Prim.Native.Nat.{◌+◌, ◌-◌, ◌≤◌}
+use native.Mathlib.Omega.{arith}
+use Rattle.words.specs.declared.LegLayout.TheVariants.{FourWords}
+use Rattle.words.specs.Words.{Words, passage_count}
+use Rattle.plain.specs.Plain.{Plain}
+use Rattle.soundness.specs.InWords.{list_in, lists_from, plain_in}
+use Rattle.meeting.specs.Meeting.{those_meeting, legs_at, listed_words}
+use Rattle.listing.proofs.Continuing.{Continues, begins, next_room, goes_on_lem, all_written_lem}
+use Rattle.listing.proofs.Legs.{passages_next, no_passages_left, plain_lists}
+use borrow.Author.Rules.{rules}
+use Rattle.listing.proofs.write_legs.Goals as goal
+
+pub loop-passage-init : goal.loop-passage-init
+loop-passage-init c =
+    let args = c.args in
+    let book = args.book.now in
+    let listed : Plain → Words = λ lists. listed_words (legs_at args.station lists) in (
+      omega arith,
+      subst (λ (lists : Plain). Continues args.out.now args.at (listed lists) args.out.now args.at (listed (plain_in FourWords book))) (plain_lists book)
+          (begins args.out.now args.at (listed (plain_in FourWords book)) c.requires.1),
+    )
+
+pub write_passage-next-requires : goal.write_passage-next-requires
+write_passage-next-requires c =
+    let loop = c.loop-passage in
+    let args = c.args in
+    let book = args.book.now in
+    let here = listed_words (those_meeting args.station (list_in FourWords book loop.passage)) in
+    let later = listed_words (legs_at args.station (lists_from (list_in FourWords book) (loop.passage + 1) (passage_count - (loop.passage + 1)))) in
+    ((c.requires.0, c.loop-passage-test.true), next_room _ _ _ _ _ _ loop.invariant.1 here later (passages_next book args.station loop.passage c.loop-passage-test.true))
+
+pub loop-passage-preserved : goal.loop-passage-preserved
+loop-passage-preserved c =
+    let loop = c.loop-passage in
+    let args = c.args in
+    let book = args.book.now in
+    let here = listed_words (those_meeting args.station (list_in FourWords book loop.passage)) in
+    let later = listed_words (legs_at args.station (lists_from (list_in FourWords book) (loop.passage + 1) (passage_count - (loop.passage + 1)))) in
+    (omega (arith, c.loop-passage-test.true), goes_on_lem _ _ _ _ _ _ loop.invariant.1 here later (passages_next book args.station loop.passage c.loop-passage-test.true) _ _ c.write_passage-next.ensures)
+
+pub returns : goal.returns
+returns c =
+    let loop = c.loop-passage in
+    let args = c.args in
+    all_written_lem _ _ _ _ _ _ loop.invariant.1 (no_passages_left args.book.now args.station loop.passage (omega (arith, c.loop-passage-test.false)))

@@ -1,0 +1,22 @@
+use mathlib.Core.Path.{sym, ap, subst, ◌∙◌}
+use Prim.Native.Nat.{◌+◌, ◌-◌, ◌≤◌}
+use mathlib.Core.List.{map}
+use mathlib.Core.Bool.{not}
+use native.Mathlib.Omega.{arith}
+use lib.Dec.{eqb}
+use lib.ListN.{length, get_or, drop}
+use Rattle.words.specs.Words.{passage_count}
+use Rattle.meeting.specs.Meeting.{pair, pair_words}
+use Rattle.stations.specs.Counting.{present_from}
+use Rattle.listing.specs.Listing.{wrote, two_if}
+use Rattle.listing.proofs.Continuing.{Continues, begins, next_room, goes_on_lem, all_written_lem, none_wrote}
+use Rattle.listing.proofs.Pairing.{with_none, with_some, pairs_next, no_words_behind}
+use Rattle.listing.proofs.write_pairs_with.Given as goal
+
+abbrev pub invariant-loop-higher : goal.invariant-loop-higher
+invariant-loop-higher l =
+    (l.higher ≤ passage_count)
+    × Continues l.out l.next (pair_words (map (pair l.lower) (present_from l.higher (drop l.higher l.counts)))) l.initial.out l.at (pair_words (map (pair l.lower) (present_from (l.lower + 1) (drop (l.lower + 1) l.counts))))
+
+abbrev pub decreases-loop-higher : goal.decreases-loop-higher
+decreases-loop-higher l = passage_count - l.higher

@@ -1,0 +1,39 @@
+-- `stations::counts_at` meets its contract: the counts so far are those of the passages.
+use mathlib.Core.Path.{◌≡◌, sym, ap, ◌∙◌}
+use Prim.Native.Nat.{ℕ, ◌-◌, ◌≤◌}
+use native.Mathlib.Omega.{arith}
+use lib.ListN.{length, get_or, set, length-set}
+use lib.Seq.{ext_get_or}
+use Rattle.words.specs.declared.LegLayout.TheVariants.{FourWords}
+use Rattle.words.specs.Words.{passage_count}
+use Rattle.words.proofs.Copying.{SameUpTo, same_more}
+use Rattle.soundness.specs.InWords.{plain_in}
+use Rattle.stations.specs.Counting.{counts_at}
+use Rattle.stations.proofs.Walking.{length_plain}
+use Rattle.stations.proofs.Counting.{length_counts, count_told}
+use borrow.Author.Rules.{rules}
+use Rattle.stations.proofs.counts_at.Goals as goal
+
+pub loop-passage-init : goal.loop-passage-init
+loop-passage-init c = (omega arith, omega arith, λ i below. absurd (omega arith))
+
+pub loop-passage-preserved : goal.loop-passage-preserved
+loop-passage-preserved c =
+    let loop = c.loop-passage in
+    let args = c.args in
+    let book = args.book.now in
+    let whole = counts_at args.station (plain_in FourWords book) in
+    let here = c.count_of.ensures ∙ sym (count_told book args.station loop.passage (omega (arith, c.loop-passage-test.true))) in (
+      omega (arith, c.loop-passage-test.true),
+      length-set loop.counts loop.passage c.count_of.result ∙ loop.invariant.1,
+      λ i below. ap (λ (count : ℕ). get_or (set loop.counts loop.passage count) i 0) here ∙ same_more loop.passage loop.counts whole (omega (arith, loop.invariant.1, c.loop-passage-test.true)) loop.invariant.2 i below,
+    )
+
+pub returns : goal.returns
+returns c =
+    let loop = c.loop-passage in
+    let args = c.args in
+    let book = args.book.now in
+    let whole = counts_at args.station (plain_in FourWords book) in
+    ext_get_or 0 loop.counts whole (loop.invariant.1 ∙ sym (length_counts args.station (plain_in FourWords book) ∙ length_plain book))
+    (λ i below. loop.invariant.2 i (omega (arith, c.loop-passage-test.false, loop.invariant.1)))
