@@ -1,4 +1,6 @@
 // The calls that users make: one frame in, one answer out, and all whole frames of an input; over the lent book and the tickets.
+#![tactic(auto)]
+
 ghost use Rattle.std.specs.Prelude.{◌≡◌, Bool, true, ℕ, ◌≤◌, ◌<◌, length};
 ghost use Rattle.words.specs.Words.{words_in_book};
 ghost use Rattle.legs.specs.Positions.{Accepted};

@@ -8,6 +8,8 @@
 //
 // A meet's line: `written`, how many words, and these; or `refused` with the number; then `spoiled`, if another word of the
 // output's room than those written has changed.
+#![tactic(auto)]
+
 ghost use Rattle.std.specs.Prelude.{◌≤◌, length};
 
 use desk::{Place, Room, at_most, say};

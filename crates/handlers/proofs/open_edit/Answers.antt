@@ -18,9 +18,9 @@ returns-in-Is c =
     let is = sym c.in-Is.is ∙ read.ensures in
     λ ticket.
     left_opened _ c.args.targets.now _ c.args.slot ticket c.edit.result _ _ _ _ _ _ refl
-    (edit_opened (gathered c.args.targets.now c.args.slot ticket) _ c.args.ranks.now _ _ (ap (gathered _ c.args.slot) c.edit.ensures ∙ opened.ensures.0.1) opened.ensures.0.0
+    (edit_opened (gathered c.args.targets.now c.args.slot ticket) _ c.args.ranks.now _ _ (ap (gathered _ c.args.slot) c.edit.ensures ∙ opened.ensures.opened.1) opened.ensures.opened.0
     ∙ ap (open_settled (gathered c.args.targets.now c.args.slot ticket) c.args.ranks.now) is)
-    opened.ensures.1 put.ensures
+    opened.ensures.others put.ensures
 
 pub returns-in-Refused : goal.returns-in-Refused
 returns-in-Refused c =

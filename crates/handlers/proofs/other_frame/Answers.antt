@@ -36,4 +36,4 @@ returns-in-Team c =
     let targets = c.args.targets.now in
     let is = c.in-Team.is in
     aimed_so c.args.book.now targets c.args.ranks.now c.args.frame.now c.args.ticket is
-    (settled_so (sym (ap (λ (r : Settled × Words). r.0) (open_by_lem c.args.book.now (gathered targets _ c.args.ticket) c.args.ranks.now c.args.frame.now _ _ (subst NoStep is c.requires.2)))) c.open-n.ensures)
+    (settled_so (sym (ap (λ (r : Settled × Words). r.0) (open_by_lem c.args.book.now (gathered targets _ c.args.ticket) c.args.ranks.now c.args.frame.now _ _ (subst NoStep is c.requires.2)))) c.«open».ensures)
