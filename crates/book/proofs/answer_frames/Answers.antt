@@ -19,34 +19,38 @@ use Rattle.dispatch.proofs.Aiming.{slot_known}
 use Rattle.handlers.specs.Settling.{NoStep}
 use Rattle.quick.specs.Quick.{TriedSays}
 use Rattle.book.proofs.Turning.{Goes, Turn, slot_known_made}
-use Rattle.book.proofs.Stepping.{Point, ends_ahead, other_than_step, quick_at, says, went_on, stepped_on, opened_on, unopened_on}
+use Rattle.book.proofs.Stepping.{ends_ahead, other_than_step, quick_at, says, went_on, stepped_on, opened_on, unopened_on}
 use borrow.Author.Rules.{rules}
 use Rattle.book.proofs.answer_frames.Goals as goal
+use Rattle.book.proofs.answer_frames.Goals.{In-Step, In-Other, After-slice_known-in-Step-1}
+use Rattle.calls.specs.declared.Aim.{Aim}
+use Rattle.calls.specs.Way.{aim_of, AimKnown}
+use Rattle.frames.specs.Numbers.{Bytes}
 
 -- Where a team's step is answered: the team, the frame found, the turn, and what the stream keeps beside its table.
-abbrev team_at_lem : Point cast-slot → ℕ
-team_at_lem c = c.before.next2.given.0.0
+abbrev team_at_lem : In-Step → ℕ
+team_at_lem c = c.in-Step.team
 
-step_inside : (c : Point cast-slot) → AheadInside c.before.before.before.before.before.before.before.before.before.before.before.before.before.before.args.input.now c.before.before.before.before.loop.at (length c.before.before.before.before.loop.out - c.before.before.before.before.loop.filled) (Ahead.Step (team_at_lem c))
-step_inside c = subst (AheadInside c.before.before.before.before.before.before.before.before.before.before.before.before.before.before.args.input.now c.before.before.before.before.loop.at (length c.before.before.before.before.loop.out - c.before.before.before.before.loop.filled)) c.before.next2.given.1 c.before.before.before.next-at.ensures.1
+step_inside : (c : In-Step) → AheadInside c.args.input.now c.loop-stop.at (length c.loop-stop.out - c.loop-stop.filled) (Ahead.Step (team_at_lem c))
+step_inside c = subst (AheadInside c.args.input.now c.loop-stop.at (length c.loop-stop.out - c.loop-stop.filled)) c.in-Step.is c.next_at-next.ensures.1
 
-abbrev step_turn : Point cast-slot → Turn
+abbrev step_turn : In-Step → Turn
 step_turn c =
-    let args = c.before.before.before.before.before.before.before.before.before.before.before.before.before.before.args in
-    let loop = c.before.before.before.before.loop in
+    let args = c.args in
+    let loop = c.loop-stop in
     record {
       ranks = args.ranks.now;
       input = args.input.now;
       long = length args.out.now;
       all = stream_from (length args.input.now) args.book.now (table_of args.tickets) args.ranks.now args.input.now args.out.now 0 0;
-      known = c.before.before.before.before.before.before.all-well-made.result;
+      known = c.all_well_made-known.result;
       words = loop.book;
       out = loop.out;
       table = table_with loop.slots loop.targets;
       at = loop.at;
       filled = loop.filled;
       goes = loop.invariant.0;
-      bytes = each_byte _ (λ (k : ℕ). omega (arith, c.before.before.before.before.before.before.before.before.before.before.before.shared-slice-known2.given k));
+      bytes = each_byte _ (λ (k : ℕ). omega (arith, c.shared_slice_known-2-1.given k));
       size = step_bytes;
       ahead = (step_inside c).0;
       aim = Aim.Team step_kind (team_at_lem c);
@@ -54,63 +58,61 @@ step_turn c =
       aim_known = (step_inside c).2;
     }
 
-abbrev quick_list : Point cast-slot → List ℕ
-quick_list c = c.before.before.before.before.loop.quick
+abbrev quick_list : In-Step → List ℕ
+quick_list c = c.loop-stop.quick
 
-quick_kept : (c : Point cast-slot) → QuickSlots (step_turn c).known (step_turn c).table.slots (quick_list c)
-quick_kept c = c.before.before.before.before.loop.invariant.1
+quick_kept : (c : In-Step) → QuickSlots (step_turn c).known (step_turn c).table.slots (quick_list c)
+quick_kept c = c.loop-stop.invariant.1
 
-team_below : (c : Point cast-slot) → team_at_lem c < team_count
+team_below : (c : In-Step) → team_at_lem c < team_count
 team_below c = (step_inside c).2.2
 
-step_room : (c : Point cast-slot) → RoomAt (step_turn c).out (step_turn c).filled
-step_room c = record { inside = (step_turn c).goes.ranges; room = (step_turn c).ahead.answerable }
+step_room : (c : In-Step) → RoomAt (step_turn c).out (step_turn c).filled
+step_room c = record { inside = (step_turn c).goes.fits; room = (step_turn c).ahead.answerable }
 
 -- The book keeps its length.
-book_whole : (c : Point array-copy-out-ticket) → length c.before.before.try-quick.new.0 ≡ words_in_book
+book_whole : (c : After-slice_known-in-Step-1) → length c.try_quick-tried.new.book ≡ words_in_book
 book_whole c = search rules
 
--- What the swap tried says.
-tried_says : (c : Point array-copy-out-ticket) → let point = c.before.before.before.before.before.before in TriedSays (step_turn point).words (step_turn point).table.targets (team_at_lem point) (slot_of (step_turn point).table (team_at_lem point)) (get_or (quick_list point) (team_at_lem point) 0) c.before.before.try-quick.result c.before.before.try-quick.new.0
-tried_says c = let point = c.before.before.before.before.before.before in
-    says (step_turn point) (team_at_lem point) refl (quick_list point) (quick_kept point) c.before.before.try-quick.result c.before.before.try-quick.new.0 (book_whole c) c.before.before.try-quick.ensures
-
 -- Where any other frame is answered: its size, and what is known of it.
-abbrev size_at : Point sub-frame → ℕ
-size_at c = c.before.next3.given.0.0
+abbrev size_at : In-Other → ℕ
+size_at c = c.in-Other.size
 
-other_inside : (c : Point sub-frame) → FrameAhead c.before.before.before.before.before.before.before.before.before.before.before.before.before.before.args.input.now c.before.before.before.before.loop.at (length c.before.before.before.before.loop.out - c.before.before.before.before.loop.filled) (size_at c)
-other_inside c = subst (AheadInside c.before.before.before.before.before.before.before.before.before.before.before.before.before.before.args.input.now c.before.before.before.before.loop.at (length c.before.before.before.before.loop.out - c.before.before.before.before.loop.filled)) c.before.next3.given.1 c.before.before.before.next-at.ensures.1
+other_inside : (c : In-Other) → FrameAhead c.args.input.now c.loop-stop.at (length c.loop-stop.out - c.loop-stop.filled) (size_at c)
+other_inside c = subst (AheadInside c.args.input.now c.loop-stop.at (length c.loop-stop.out - c.loop-stop.filled)) c.in-Other.is c.next_at-next.ensures.1
 
-abbrev other_turn : Point slot-of-requires → Turn
-other_turn c =
-    let args = c.before.before.before.before.before.before.before.before.before.before.before.before.before.before.before.before.args in
-    let loop = c.before.before.before.before.before.before.loop in
+abbrev frame_there : In-Other → Bytes
+frame_there c = frame_at c.args.input.now c.loop-stop.at (size_at c)
+
+-- The turn of a frame whose aim was told.
+abbrev other_turn : (c : In-Other) (aim : Aim) → (aim ≡ aim_of (frame_there c)) × AimKnown (frame_there c) aim → Turn
+other_turn c aim told =
+    let args = c.args in
+    let loop = c.loop-stop in
     record {
       ranks = args.ranks.now;
       input = args.input.now;
       long = length args.out.now;
       all = stream_from (length args.input.now) args.book.now (table_of args.tickets) args.ranks.now args.input.now args.out.now 0 0;
-      known = c.before.before.before.before.before.before.before.before.all-well-made.result;
+      known = c.all_well_made-known.result;
       words = loop.book;
       out = loop.out;
       table = table_with loop.slots loop.targets;
       at = loop.at;
       filled = loop.filled;
       goes = loop.invariant.0;
-      bytes = each_byte _ (λ (k : ℕ). omega (arith, c.before.before.before.before.before.before.before.before.before.before.before.before.before.shared-slice-known2.given k));
-      size = size_at c.before.before;
-      ahead = other_inside c.before.before;
-      aim = c.aim-of.result;
-      aimed = sym c.aim-of.ensures.0;
-      aim_known = c.aim-of.ensures.1;
+      bytes = each_byte _ (λ (k : ℕ). omega (arith, c.shared_slice_known-2-1.given k));
+      size = size_at c;
+      ahead = other_inside c;
+      aim = aim;
+      aimed = sym told.0;
+      aim_known = told.1;
     }
 
 -- It is no team's step.
-no_step : (c : Point slot-of-requires) → NoStep c.aim-of.result
-no_step c =
-    let loop = c.before.before.before.before.before.before.loop in
-    other_than_step c.before.before.before.before.before.before.before.before.before.before.before.before.before.before.before.before.args.input.now loop.at (length loop.out - loop.filled) (size_at c.before.before) c.aim-of.result (sym c.before.before.before.before.before.next-at.ensures.0 ∙ c.before.before.before.next3.given.1) c.aim-of.ensures.0
+no_step : (c : In-Other) (aim : Aim) → (aim ≡ aim_of (frame_there c)) × AimKnown (frame_there c) aim → NoStep aim
+no_step c aim told =
+    other_than_step c.args.input.now c.loop-stop.at (length c.loop-stop.out - c.loop-stop.filled) (size_at c) aim (sym c.next_at-next.ensures.0 ∙ c.in-Other.is) told.0
 
 pub loop-stop-init : goal.loop-stop-init
 loop-stop-init c =
@@ -147,111 +149,113 @@ returns-in-End c =
     )
 
 pub overflow_add-at : goal.overflow_add-at
-overflow_add-at c = omega (arith, (step_inside c).0.inside)
+overflow_add-at c = omega (arith, (step_inside (goal.at.overflow_add-at c).In-Step).0.inside)
 
 pub offset_bounds-slots-slot : goal.offset_bounds-slots-slot
-offset_bounds-slots-slot c = omega (arith, team_below c)
+offset_bounds-slots-slot c = omega (arith, team_below (goal.at.offset_bounds-slots-slot c).In-Step)
 
 pub bounds-slots-slot : goal.bounds-slots-slot
-bounds-slots-slot c = omega (arith, team_below c)
+bounds-slots-slot c = omega (arith, team_below (goal.at.bounds-slots-slot c).In-Step)
 
 pub offset_bounds-quick-slot : goal.offset_bounds-quick-slot
-offset_bounds-quick-slot c = omega (arith, team_below c)
+offset_bounds-quick-slot c = omega (arith, team_below (goal.at.offset_bounds-quick-slot c).In-Step)
 
 pub bounds-quick-slot : goal.bounds-quick-slot
-bounds-quick-slot c = omega (arith, team_below c)
+bounds-quick-slot c = omega (arith, team_below (goal.at.bounds-quick-slot c).In-Step)
 
 pub try_quick-tried-requires : goal.try_quick-tried-requires
 try_quick-tried-requires c =
-    ((step_turn c).goes.book, team_below c, quick_at (step_turn c) (team_at_lem c) refl (quick_list c) (quick_kept c))
+    ((step_turn (goal.at.try_quick-tried-requires c).In-Step).goes.book, team_below (goal.at.try_quick-tried-requires c).In-Step, quick_at (step_turn (goal.at.try_quick-tried-requires c).In-Step) (team_at_lem (goal.at.try_quick-tried-requires c).In-Step) refl (quick_list (goal.at.try_quick-tried-requires c).In-Step) (quick_kept (goal.at.try_quick-tried-requires c).In-Step))
 
 pub offset_bounds-slots-slot-in-Step : goal.offset_bounds-slots-slot-in-Step
-offset_bounds-slots-slot-in-Step c = omega (arith, team_below c)
+offset_bounds-slots-slot-in-Step c = omega (arith, team_below (goal.at.offset_bounds-slots-slot-in-Step c).In-Step)
 
 pub bounds-slots-slot-in-Step : goal.bounds-slots-slot-in-Step
-bounds-slots-slot-in-Step c = omega (arith, team_below c)
+bounds-slots-slot-in-Step c = omega (arith, team_below (goal.at.bounds-slots-slot-in-Step c).In-Step)
 
 pub advanced-after-requires : goal.advanced-after-requires
-advanced-after-requires c = (tried_says c).advances c.if-tried.true
+advanced-after-requires c =
+    let point = (goal.at.advanced-after-requires c).In-Step in
+    (says (step_turn point) (team_at_lem point) refl (quick_list point) (quick_kept point) c.try_quick-tried.result c.try_quick-tried.new.book (book_whole (goal.at.advanced-after-requires c).After-slice_known-in-Step-1) c.try_quick-tried.ensures).advances c.if-tried.true
 
 pub offset_bounds-slots-slot-then-tried : goal.offset_bounds-slots-slot-then-tried
-offset_bounds-slots-slot-then-tried c = omega (arith, team_below c)
+offset_bounds-slots-slot-then-tried c = omega (arith, team_below (goal.at.offset_bounds-slots-slot-then-tried c).In-Step)
 
 pub bounds-slots-slot-then-tried : goal.bounds-slots-slot-then-tried
-bounds-slots-slot-then-tried c = omega (arith, team_below c)
+bounds-slots-slot-then-tried c = omega (arith, team_below (goal.at.bounds-slots-slot-then-tried c).In-Step)
 
 pub put_told-filled-requires : goal.put_told-filled-requires
-put_told-filled-requires c = step_room c
+put_told-filled-requires c = step_room (goal.at.put_told-filled-requires c).In-Step
 
 pub loop-stop-smaller-then-tried : goal.loop-stop-smaller-then-tried
-loop-stop-smaller-then-tried c = let inside = (step_inside c).0.inside in omega (arith, inside)
+loop-stop-smaller-then-tried c = let inside = (step_inside (goal.at.loop-stop-smaller-then-tried c).In-Step).0.inside in omega (arith, inside)
 
 pub loop-stop-preserved-then-tried : goal.loop-stop-preserved-then-tried
 loop-stop-preserved-then-tried c =
-    went_on (step_turn c) (team_at_lem c) refl (quick_list c) (quick_kept c) c.try_quick-tried.result c.try_quick-tried.new.book (book_whole c) c.try_quick-tried.ensures
+    went_on (step_turn (goal.at.loop-stop-preserved-then-tried c).In-Step) (team_at_lem (goal.at.loop-stop-preserved-then-tried c).In-Step) refl (quick_list (goal.at.loop-stop-preserved-then-tried c).In-Step) (quick_kept (goal.at.loop-stop-preserved-then-tried c).In-Step) c.try_quick-tried.result c.try_quick-tried.new.book (book_whole (goal.at.loop-stop-preserved-then-tried c).After-slice_known-in-Step-1) c.try_quick-tried.ensures
     c.if-tried.true _ _ _ c.advanced-after.ensures c.put_told-filled.ensures
 
 pub other_step-left-requires : goal.other_step-left-requires
 other_step-left-requires c =
-    let told = tried_says c in
-    let fast = quick_at (step_turn c) (team_at_lem c) refl (quick_list c) (quick_kept c) in
-    (book_whole c, team_below c, (λ claims. record { team_known = team_below c; claiming = told.claiming claims; made = (fast (told.few_claimed claims)).made; room_at = step_room c }), slot_known_made (step_turn c), step_room c)
+    let point = (goal.at.other_step-left-requires c).In-Step in
+    let told = says (step_turn point) (team_at_lem point) refl (quick_list point) (quick_kept point) c.try_quick-tried.result c.try_quick-tried.new.book (book_whole (goal.at.other_step-left-requires c).After-slice_known-in-Step-1) c.try_quick-tried.ensures in
+    let fast = quick_at (step_turn point) (team_at_lem point) refl (quick_list point) (quick_kept point) in
+    (book_whole (goal.at.other_step-left-requires c).After-slice_known-in-Step-1, team_below point, (λ claims. record { team_known = team_below point; claiming = told.claiming claims; made = (fast (told.few_claimed claims)).made; room_at = step_room point }), slot_known_made (step_turn point), step_room point)
 
 pub offset_bounds-slots-slot-in-Step-2 : goal.offset_bounds-slots-slot-in-Step-2
-offset_bounds-slots-slot-in-Step-2 c = omega (arith, team_below c)
+offset_bounds-slots-slot-in-Step-2 c = omega (arith, team_below (goal.at.offset_bounds-slots-slot-in-Step-2 c).In-Step)
 
 pub bounds-slots-slot-in-Step-2 : goal.bounds-slots-slot-in-Step-2
-bounds-slots-slot-in-Step-2 c = omega (arith, team_below c)
+bounds-slots-slot-in-Step-2 c = omega (arith, team_below (goal.at.bounds-slots-slot-in-Step-2 c).In-Step)
 
 pub offset_bounds-quick-slot-in-Step : goal.offset_bounds-quick-slot-in-Step
-offset_bounds-quick-slot-in-Step c = omega (arith, team_below c)
+offset_bounds-quick-slot-in-Step c = omega (arith, team_below (goal.at.offset_bounds-quick-slot-in-Step c).In-Step)
 
 pub bounds-quick-slot-in-Step : goal.bounds-quick-slot-in-Step
-bounds-quick-slot-in-Step c = omega (arith, team_below c)
+bounds-quick-slot-in-Step c = omega (arith, team_below (goal.at.bounds-quick-slot-in-Step c).In-Step)
 
 pub loop-stop-smaller-in-Step : goal.loop-stop-smaller-in-Step
-loop-stop-smaller-in-Step c = let inside = (step_inside c).0.inside in omega (arith, inside)
+loop-stop-smaller-in-Step c = let inside = (step_inside (goal.at.loop-stop-smaller-in-Step c).In-Step).0.inside in omega (arith, inside)
 
 pub loop-stop-preserved-in-Step : goal.loop-stop-preserved-in-Step
 loop-stop-preserved-in-Step c =
-    stepped_on (step_turn c) (team_at_lem c) refl (quick_list c) (quick_kept c) c.try_quick-tried.result c.try_quick-tried.new.book (book_whole c) c.try_quick-tried.ensures
+    stepped_on (step_turn (goal.at.loop-stop-preserved-in-Step c).In-Step) (team_at_lem (goal.at.loop-stop-preserved-in-Step c).In-Step) refl (quick_list (goal.at.loop-stop-preserved-in-Step c).In-Step) (quick_kept (goal.at.loop-stop-preserved-in-Step c).In-Step) c.try_quick-tried.result c.try_quick-tried.new.book (book_whole (goal.at.loop-stop-preserved-in-Step c).After-slice_known-in-Step-1) c.try_quick-tried.ensures
     c.if-tried.false _ _ _ _ _ _ c.other_step-left.ensures c.quick_of.ensures
 
 pub overflow_add-frame : goal.overflow_add-frame
-overflow_add-frame c = omega (arith, (other_inside c).inside)
+overflow_add-frame c = omega (arith, (other_inside (goal.at.overflow_add-frame c).In-Other).inside)
 
--- LOST GOAL slice-bounds-frame-end
-part-frame-end : tie.Need-slice-bounds-frame-end invariant-loop decreases-loop
-part-frame-end c = (other_inside c).inside
+pub slice_bounds-frame-end : goal.slice_bounds-frame-end
+slice_bounds-frame-end c = (other_inside (goal.at.slice_bounds-frame-end c).In-Other).inside
 
 pub overflow_add-at-in-Other : goal.overflow_add-at-in-Other
-overflow_add-at-in-Other c = omega (arith, (other_inside c).inside)
+overflow_add-at-in-Other c = omega (arith, (other_inside (goal.at.overflow_add-at-in-Other c).In-Other).inside)
 
 pub slot_of-slot-requires : goal.slot_of-slot-requires
-slot_of-slot-requires c = slot_known (frame_at c.args.input.now c.loop-stop.at (size_at c)) c.aim_of-aim.result c.aim_of-aim.ensures.1
+slot_of-slot-requires c = slot_known (frame_at c.args.input.now c.loop-stop.at (size_at (goal.at.slot_of-slot-requires c).In-Other)) c.aim_of-aim.result c.aim_of-aim.ensures.1
 
 pub other_frame-left-requires : goal.other_frame-left-requires
 other_frame-left-requires c =
-    let turn = other_turn c in
-    (turn.goes.book, turn.aim_known, no_step c, turn.goes.accepted, record { inside = turn.goes.fits; room = turn.ahead.answerable })
+    let turn = other_turn (goal.at.other_frame-left-requires c).In-Other c.aim_of-aim.result c.aim_of-aim.ensures in
+    (turn.goes.book, turn.aim_known, no_step (goal.at.other_frame-left-requires c).In-Other c.aim_of-aim.result c.aim_of-aim.ensures, turn.goes.accepted, record { inside = turn.goes.fits; room = turn.ahead.answerable })
 
 pub loop-stop-smaller-then-left : goal.loop-stop-smaller-then-left
-loop-stop-smaller-then-left c = let ahead = other_inside c in omega (arith, ahead.inside, ahead.least)
+loop-stop-smaller-then-left c = let ahead = other_inside (goal.at.loop-stop-smaller-then-left c).In-Other in omega (arith, ahead.inside, ahead.least)
 
 pub loop-stop-preserved-then-left : goal.loop-stop-preserved-then-left
 loop-stop-preserved-then-left c =
     let slot = c.slot_of-slot in
     let frame = c.other_frame-left in
     let loop = c.loop-stop in
-    opened_on (other_turn c) (no_step c) loop.quick loop.invariant.1 slot.result slot.ensures.0 frame.result _ _ frame.ensures
+    opened_on (other_turn (goal.at.loop-stop-preserved-then-left c).In-Other c.aim_of-aim.result c.aim_of-aim.ensures) (no_step (goal.at.loop-stop-preserved-then-left c).In-Other c.aim_of-aim.result c.aim_of-aim.ensures) loop.quick loop.invariant.1 slot.result slot.ensures.0 frame.result _ _ frame.ensures
     c.if-left.true slot.ensures.1 _ c.quick_of-then-left.ensures
 
 pub loop-stop-smaller : goal.loop-stop-smaller
-loop-stop-smaller c = let ahead = other_inside c in omega (arith, ahead.inside, ahead.least)
+loop-stop-smaller c = let ahead = other_inside (goal.at.loop-stop-smaller c).In-Other in omega (arith, ahead.inside, ahead.least)
 
 pub loop-stop-preserved : goal.loop-stop-preserved
 loop-stop-preserved c =
     let slot = c.slot_of-slot in
     let frame = c.other_frame-left in
     let loop = c.loop-stop in
-    (unopened_on (other_turn c) (no_step c) loop.quick loop.invariant.1 slot.result slot.ensures.0 frame.result _ _ frame.ensures c.if-left.false, loop.invariant.1)
+    (unopened_on (other_turn (goal.at.loop-stop-preserved c).In-Other c.aim_of-aim.result c.aim_of-aim.ensures) (no_step (goal.at.loop-stop-preserved c).In-Other c.aim_of-aim.result c.aim_of-aim.ensures) loop.quick loop.invariant.1 slot.result slot.ensures.0 frame.result _ _ frame.ensures c.if-left.false, loop.invariant.1)
