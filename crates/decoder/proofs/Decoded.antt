@@ -1,5 +1,5 @@
 -- What the fields of an edit are read as, from the answers of the fields and from what repeats.
-use Prim.Native.Nat.{ℕ, ◌+◌, ◌-◌}
+use Prim.Native.Nat.{ℕ, ◌+◌}
 use mathlib.Core.Path.{◌≡◌, refl, sym, ap, ◌∙◌}
 use mathlib.Core.List.{List, [], ◌∷◌}
 use mathlib.Core.Bool.{Bool, true, false, not, cond}
@@ -14,14 +14,12 @@ use Rattle.edits.specs.declared.Correct.{Correct}
 use Rattle.edits.specs.declared.Strike.{Strike}
 use Rattle.edits.specs.declared.Move.{Move}
 use Rattle.edits.specs.declared.Edit.{Edit}
-use Rattle.edits.specs.declared.Edit.TheVariants as Edit
 use Rattle.edits.specs.Ranges.{passage_in_range, leg_number_in_range, leg_or_none_in_range, count_before_add_in_range, count_before_strike_in_range, edit_in_range, edit_repeats, edit_allowed, named_twice, same_station}
 use Rattle.frames.specs.declared.Field.TheVariants as Field
 use Rattle.frames.specs.declared.MeasureField.TheVariants as MeasureField
 use Rattle.frames.specs.declared.Taken.{Taken}
 use Rattle.frames.specs.declared.TakenField.TheVariants as TakenField
 use Rattle.frames.specs.declared.EditRead.{EditRead}
-use Rattle.frames.specs.declared.EditRead.TheVariants as EditRead
 use Rattle.frames.specs.Numbers.{Bytes, number16}
 use Rattle.frames.specs.Requests.{stations_at, measure_at, taken_at, add_with, correct_with, strike_in, move_in}
 use Rattle.frames.specs.Fields.{field_of, measure_field_of, taken_in_range, taken_field_of, measure_size, measure_read_at, angles_fit_at, edit_read, read_if, add_read, correct_read}

@@ -15,14 +15,13 @@ use Rattle.legs.specs.declared.Measure.{Measure}
 use Rattle.legs.specs.Legs.{last_station}
 use Rattle.legs.specs.Minutes.{Minutes, angles_in_range, rounded}
 use Rattle.edits.specs.declared.Edit.{Edit}
-use Rattle.edits.specs.declared.Edit.TheVariants as Edit
 use Rattle.edits.specs.Ranges.{stations_in_range, edit_stations_in_range}
 use Rattle.frames.specs.Request.{Request, Open, Step, Look, View}
 use Rattle.frames.specs.Numbers.{Bytes, are_bytes, bytes32, number16, numbers16, signed_of, fits16}
 use Rattle.frames.specs.Requests.{length_field, kind_field, part_after_kind, team_in, add_kind, correct_kind, strike_kind, step_kind, look_kind, view_kind, add_minutes_kind, correct_minutes_kind, view_words_in, stations_at, measure_at, minutes_at, add_in, correct_in, strike_in, move_in, add_in_minutes, correct_in_minutes, edit_of_kind, angles_of_kind, request_of_kind, request_in, length_fits, StationsFit}
 use Rattle.frames.specs.Fields.{header_of}
 use Rattle.frames.specs.Writing.{bits_of, fields16, measure_bytes, edit_numbers, edit_measures, signed_fits, measure_fits, request_frame, RequestsReadBack, RequestFramesWhole}
-use Rattle.frames.specs.Minutes.{MinutesEdit, AddInMinutes, CorrectInMinutes, rounded_edit, angles_of, minutes_bytes, minutes_of_edit, minutes_frame, minutes_fit, all_minutes_bytes, MinutesReadBack, MinutesFramesWhole, MinutesFramesAreBytes}
+use Rattle.frames.specs.Minutes.{AddInMinutes, CorrectInMinutes, rounded_edit, angles_of, minutes_bytes, minutes_of_edit, minutes_frame, minutes_fit, all_minutes_bytes, MinutesReadBack, MinutesFramesWhole, MinutesFramesAreBytes}
 use Rattle.frames.proofs.Bytes.{back16, back32, bytes_after, numbers_fit, numbers_further16, numbers_back16, length_fields16}
 use Rattle.frames.proofs.Headers.{not_torn, length_due, header_kind, view_even}
 

@@ -15,7 +15,6 @@ use Rattle.tickets.specs.declared.Values.{Values}
 use Rattle.tickets.specs.Steps.{values_from}
 use Rattle.tickets.specs.declared.LookAnswer.TheVariants.{Value, Held}
 use Rattle.edits.specs.declared.Edit.{Edit}
-use Rattle.edits.specs.declared.Edit.TheVariants as Edit
 use Rattle.edits.specs.Ranges.{edit_in_range, edit_repeats}
 use Rattle.edits.specs.Views.{all_in_book, view_in_range, view_repeats}
 use Rattle.frames.specs.Request as Request

@@ -1,20 +1,18 @@
 -- Every edit that is read from bytes has room in a frame in hundredths.
 use Prim.Native.Nat.{ℕ, zero, suc, ◌+◌, ◌-◌, ◌<◌}
-use mathlib.Core.Path.{◌≡◌, refl, sym, ap, subst, ◌∙◌}
-use mathlib.Core.List.{List, [], ◌∷◌, map}
+use mathlib.Core.Path.{◌≡◌, refl, subst}
+use mathlib.Core.List.{[], ◌∷◌, map}
 use mathlib.Core.Bool.{Bool, true, false, cond}
 use native.Mathlib.Omega.{arith}
 use native.Mathlib.Decide.{dec_lt}
 use borrow.Author.Tests.{lt-ltb, le-ltb}
 use lib.Dec.{eqb, ltb}
-use lib.IntN.{ℤ, pos, negsuc}
+use lib.IntN.{pos}
 use Rattle.words.specs.Tests.{all_hold}
 use Rattle.words.proofs.Tests.{AllTrue, split, join}
-use Rattle.legs.specs.declared.Measure.{Measure}
 use Rattle.legs.specs.Minutes.{hundredths_of, down, signed_by, angles_in_range, rounded}
 use Rattle.legs.proofs.Minutes.{angles_rounded}
 use Rattle.edits.specs.declared.Edit.{Edit}
-use Rattle.edits.specs.declared.Edit.TheVariants as Edit
 use Rattle.frames.specs.Request.{Request, Open, Step, Look, View}
 use Rattle.frames.specs.Numbers.{Bytes, are_bytes, number16, number32, signed_of, fits16}
 use Rattle.frames.specs.Requests.{kind_field, part_after_kind, team_in, add_kind, correct_kind, strike_kind, step_kind, look_kind, view_kind, add_minutes_kind, correct_minutes_kind, measure_at, minutes_at, add_in, correct_in, strike_in, move_in, add_in_minutes, correct_in_minutes, edit_of_kind, angles_of_kind, view_words_in, request_of_kind, request_in}

@@ -6,27 +6,18 @@ use Rattle.legs.specs.declared.Measure.{Measure}
 use Rattle.legs.specs.Legs.{clino_in_range, measure_in_range}
 use Rattle.legs.specs.Minutes.{Minutes, hundredths_of, signed_by, compass_angle_in_range, clino_angle_in_range, angles_in_range, rounded}
 use Rattle.edits.specs.declared.Edit.{Edit}
-use Rattle.edits.specs.declared.Edit.TheVariants as Edit
 use Rattle.edits.specs.Ranges.{leg_number_in_range, leg_or_none_in_range, count_before_strike_in_range, edit_in_range, edit_repeats}
 use Rattle.edits.specs.Views.{view_in_range, view_repeats, view_of}
 use Rattle.frames.specs.Request.{Request, Open, Step, Look, View}
 use Rattle.frames.specs.declared.Header.{Header}
-use Rattle.frames.specs.declared.Header.TheVariants as Header
 use Rattle.frames.specs.declared.Field.{Field}
-use Rattle.frames.specs.declared.Field.TheVariants as Field
 use Rattle.frames.specs.declared.LongField.{LongField}
-use Rattle.frames.specs.declared.LongField.TheVariants as LongField
 use Rattle.frames.specs.declared.SignedField.{SignedField}
-use Rattle.frames.specs.declared.SignedField.TheVariants as SignedField
 use Rattle.frames.specs.declared.MeasureField.{MeasureField}
-use Rattle.frames.specs.declared.MeasureField.TheVariants as MeasureField
 use Rattle.frames.specs.declared.Taken.{Taken}
 use Rattle.frames.specs.declared.TakenField.{TakenField}
-use Rattle.frames.specs.declared.TakenField.TheVariants as TakenField
 use Rattle.frames.specs.declared.EditRead.{EditRead}
-use Rattle.frames.specs.declared.EditRead.TheVariants as EditRead
 use Rattle.frames.specs.declared.Reading.{Reading}
-use Rattle.frames.specs.declared.Reading.TheVariants as Reading
 use Rattle.frames.specs.declared.ViewRead.{ViewRead}
 use Rattle.frames.specs.Numbers.{Bytes}
 use Rattle.frames.specs.Requests.{length_field, kind_field, head_bytes, part_after_kind, step_kind, view_kind, length_of_kind, is_kind, length_fits, measure_at, minutes_at, add_with, correct_with, edit_of_kind, angles_of_kind}

@@ -4,7 +4,6 @@ use Rattle.words.specs.Tests.{all_hold}
 use Rattle.legs.specs.declared.Stations.{Stations}
 use Rattle.legs.specs.Minutes.{Minutes, angles_in_range, rounded}
 use Rattle.edits.specs.declared.Edit.{Edit}
-use Rattle.edits.specs.declared.Edit.TheVariants as Edit
 use Rattle.frames.specs.Request.{Open}
 use Rattle.frames.specs.declared.Header.TheVariants.{Kind}
 use Rattle.frames.specs.Numbers.{Bytes, are_bytes, bytes32, fits16, fits32}

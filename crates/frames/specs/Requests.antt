@@ -10,7 +10,6 @@ use Rattle.edits.specs.declared.Correct.{Correct}
 use Rattle.edits.specs.declared.Strike.{Strike}
 use Rattle.edits.specs.declared.Move.{Move}
 use Rattle.edits.specs.declared.Edit.{Edit}
-use Rattle.edits.specs.declared.Edit.TheVariants as Edit
 use Rattle.edits.specs.Ranges.{edit_stations_in_range}
 use Rattle.frames.specs.declared.Taken.{Taken}
 use Rattle.frames.specs.Request.{Request, Open, Step, Look, View}

@@ -11,7 +11,7 @@ use Rattle.words.specs.Words.{link_word_in, measure_word_in, newer_word}
 use Rattle.legs.specs.declared.Leg.{Leg}
 use Rattle.legs.specs.declared.Reading.{Reading}
 use Rattle.legs.specs.declared.Reading.TheVariants.{NoLeg, Is}
-use Rattle.legs.specs.Legs.{clino_offset, is_plumb, place_of, measure_of, place_in_range, measure_in_range}
+use Rattle.legs.specs.Legs.{clino_offset, place_of, measure_of, place_in_range, measure_in_range}
 use Rattle.legs.specs.Reading.{is_place, is_measure, reading_of}
 use Rattle.legs.specs.Positions.{Ranks, fixed_ranks, position_by, position_of, is_permutation}
 use Rattle.legs.specs.Minutes.{hundredths_of, signed_by, compass_angle_in_range, clino_angle_in_range, rounded}

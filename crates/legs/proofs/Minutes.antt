@@ -1,19 +1,19 @@
 -- Angles in minutes, rounded: to the nearest hundredth, within a third of one, both of M; figures in range stay so; zero has no sign; plumb at 90 degrees alone.
-use Prim.Native.Nat.{ℕ, zero, suc, ◌+◌, ◌*◌, ◌-◌, ◌/◌, ◌≤◌, ◌<◌}
+use Prim.Native.Nat.{ℕ, zero, suc, ◌+◌, ◌*◌, ◌-◌, ◌/◌, ◌≤◌}
 use mathlib.Core.Path.{◌≡◌, refl, sym, ap, ◌∙◌}
 use mathlib.Core.List.{[], ◌∷◌}
 use mathlib.Core.Bool.{Bool, true, false, cond}
-use mathlib.Core.Logic.{◌≢◌, ◌⊎◌, inl, inr}
+use mathlib.Core.Logic.{inl, inr}
 use native.Mathlib.Omega.{arith}
 use native.Mathlib.Decide.{ℕ_discrete, dec_lt}
 use borrow.Author.Tests.{leb-true, le-leb, lt-ltb, le-ltb, eq-eqb, ne_eqb}
 use lib.Dec.{eqb, leb}
-use lib.IntN.{ℤ, pos, negsuc}
+use lib.IntN.{pos, negsuc}
 use Rattle.words.specs.Tests.{all_hold, within}
 use Rattle.words.proofs.Tests.{split, join}
 use Rattle.legs.specs.Legs.{longest_distance, last_compass, steepest_clino, clino_in_range, is_plumb, measure_in_range}
 use Rattle.legs.specs.Reading.{clino_at}
-use Rattle.legs.specs.Minutes.{Minutes, minutes_of, hundredths_of, down, signed_by, compass_angle_in_range, clino_angle_in_range, angles_in_range, rounded, Rounded, RoundsToTheNearest, RoundsBothAngles, RoundedInRange, ZeroHasNoSign, PlumbAtNinety}
+use Rattle.legs.specs.Minutes.{Minutes, minutes_of, hundredths_of, down, signed_by, compass_angle_in_range, clino_angle_in_range, angles_in_range, Rounded, RoundsToTheNearest, RoundsBothAngles, RoundedInRange, ZeroHasNoSign, PlumbAtNinety}
 
 -- As it is computed: 100 hundredths a degree, and 5/3 a minute.
 pub by_thirds : (degrees minutes : ℕ) → hundredths_of degrees minutes ≡ 100 * degrees + (5 * minutes + 1) / 3

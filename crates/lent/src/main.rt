@@ -11,6 +11,8 @@
 //
 // A frame's lines: what is returned and the output; each word that has changed; each ticket that stands, with its phase, n,
 // claimed, done, tries, and its targets.
+#![tactic(auto)]
+
 ghost use Rattle.std.specs.Prelude.{◌+◌, ◌*◌, ◌≤◌, ◌<◌, length};
 ghost use Rattle.words.specs.Words.{team_count};
 ghost use Rattle.tickets.specs.Table.{target_room};

@@ -13,6 +13,8 @@
 //
 // A frame's line is the number returned and so many bytes of its output (all, if there are fewer); the line of the other
 // calls is the number, 0 if not refused. The output keeps what it holds from one call to the next.
+#![tactic(auto)]
+
 ghost use Rattle.std.specs.Prelude.{◌+◌, ◌≤◌, ◌<◌, length};
 ghost use Rattle.words.specs.Words.{words_in_store};
 

@@ -5,7 +5,7 @@ use native.Mathlib.Omega.{arith}
 use borrow.Author.Tests.{lt-ltb, le-ltb}
 use Rattle.words.specs.declared.LegLayout.{LegLayout}
 use Rattle.words.specs.declared.LegLayout.TheVariants.{ThreeWords, FourWords}
-use Rattle.words.specs.Words.{leg_words, first_leg_word, newest_word, count_word, link_word_in, place_word_in, measure_word_in, newer_word}
+use Rattle.words.specs.Words.{leg_words, first_leg_word, newest_word, count_word, link_word_in, newer_word}
 use Rattle.plain.specs.Plain.{Plain, list_of, find, passage_word, leg_word, word_in}
 use Rattle.plain.specs.Laws.{WordsFollowLayout, NewerWordsFollow}
 

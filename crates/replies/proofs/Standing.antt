@@ -13,7 +13,7 @@ use Rattle.tickets.specs.declared.Kind.TheVariants.{Edit, Stale, View}
 use Rattle.tickets.specs.declared.Phase.{Phase}
 use Rattle.tickets.specs.declared.Phase.TheVariants.{NoTicket, Claiming, Putting, GivingBack, Viewing, Viewed}
 use Rattle.tickets.specs.declared.Ticket as Slot
-use Rattle.tickets.specs.Tickets.{no_ticket, target_at, well_made}
+use Rattle.tickets.specs.Tickets.{target_at, well_made}
 use Rattle.tickets.specs.Table.{target_room, target_standing, stands_in, claims_in, done_with_one, tried_slot, phase_by, phase_of, standing, gathered}
 use Rattle.tickets.proofs.Made.{TargetFits, Made, made, CountsFit, counts_in}
 use Rattle.tickets.proofs.Gathering.{gathered_stands, gathered_gone}

@@ -1,4 +1,6 @@
 // What survey does between a read and a write.
+#![tactic(auto)]
+
 ghost use Rattle.std.specs.Prelude.{◌≡◌, ◌+◌, ◌-◌, ◌<◌, ◌≤◌, length, take};
 ghost use Rattle.words.specs.Words.{words_in_book};
 ghost use Rattle.legs.specs.Positions.{Accepted};

@@ -1,9 +1,8 @@
 -- How a step settles, by the word found and the counts: the cases of the definition, one law each.
-use Prim.Native.Nat.{ℕ, ◌+◌}
-use mathlib.Core.Path.{◌≡◌, refl, sym, ap, ◌∙◌}
+use Prim.Native.Nat.{ℕ}
+use mathlib.Core.Path.{◌≡◌, refl, ap, ◌∙◌}
 use mathlib.Core.Bool.{true, false, cond}
 use borrow.Author.Tests.{eq-eqb, ne_eqb}
-use lib.Dec.{eqb}
 use Rattle.words.specs.Words.{Words, is_held, read_of, swap_of}
 use Rattle.tickets.specs.declared.Phase.{Phase}
 use Rattle.tickets.specs.declared.Phase.TheVariants.{Claiming, GivingBack, Viewing}
@@ -11,7 +10,6 @@ use Rattle.tickets.specs.Tickets.{Ticket}
 use Rattle.tickets.specs.declared.SwapTried.{SwapTried}
 use Rattle.tickets.specs.Steps.{Stepped}
 use Rattle.tickets.specs.declared.StepAnswer.TheVariants.{Found, Stale}
-use Rattle.tickets.specs.declared.LookAnswer.{LookAnswer}
 use Rattle.tickets.specs.declared.LookAnswer.TheVariants.{Held, Value}
 use Rattle.tickets.specs.Tickets.{no_ticket, target_at}
 use Rattle.tickets.specs.Steps.{swap_tried_in, swap_tried, one_more_try, advanced, stepped, claimed, waited, differed, view_waited, view_claimed, settled_in, settled, step_of, look_of}

@@ -1,5 +1,5 @@
 -- The table gathered from the code's: slot by slot, target by target; a slot stored anew, and another team's targets left as they are.
-use Prim.Native.Nat.{ℕ, zero, suc, ◌+◌, ◌*◌, ◌≤◌, ◌<◌, min}
+use Prim.Native.Nat.{ℕ, zero, suc, ◌+◌, ◌*◌, ◌<◌, min}
 use mathlib.Core.Path.{◌≡◌, refl, sym, ap, ◌∙◌}
 use mathlib.Core.List.{List, [], ◌∷◌, ◌++◌}
 use mathlib.Core.Logic.{◌≢◌}
@@ -12,7 +12,7 @@ use Rattle.tickets.specs.declared.Target.{Target}
 use Rattle.tickets.specs.declared.Ticket as Slot
 use Rattle.tickets.specs.declared.Tickets as Table
 use Rattle.tickets.specs.Tickets.{Ticket, no_ticket, fresh_tickets, ticket_of, with_ticket, target, target_at, targets_from, targets_in, padded}
-use Rattle.tickets.specs.Table.{target_room, place_of, target_standing, column, no_slot, stands_in, standing, targets_of, gathered, gathered_from, table_of, slot_of, NumbersBehindAreFree, ElsewhereSame}
+use Rattle.tickets.specs.Table.{place_of, target_standing, column, no_slot, standing, targets_of, gathered, gathered_from, table_of, slot_of, NumbersBehindAreFree, ElsewhereSame}
 use Rattle.tickets.proofs.Gathering.{gathered_stands, gathered_gone}
 
 -- Empty slots say no ticket, whatever numbers stand behind them.

@@ -1,8 +1,8 @@
 -- The ticket that a view's slot says, step by step: a value noted in the array, one more word claimed, one more given back.
 use Prim.Native.Nat.{ℕ, zero, suc, ◌+◌, ◌*◌, ◌-◌, ◌≤◌, ◌<◌, min}
-use mathlib.Core.Path.{◌≡◌, refl, sym, ap, ◌∙◌}
+use mathlib.Core.Path.{◌≡◌, sym, ap, ◌∙◌}
 use mathlib.Core.Bool.{Bool, true, false, cond}
-use mathlib.Core.List.{List, [], ◌∷◌, ◌++◌}
+use mathlib.Core.List.{List, ◌∷◌, ◌++◌}
 use native.Mathlib.Omega.{arith}
 use native.Mathlib.Nat.{le_of_suc-le-suc, not-suc-le-zero}
 use native.Mathlib.Decide.{ℕ_discrete}
@@ -13,7 +13,6 @@ use lib.Dec.{eqb, ltb}
 use Rattle.words.specs.Words.{most_targets}
 use Rattle.tickets.specs.declared.Phase.{Phase}
 use Rattle.tickets.specs.declared.Phase.TheVariants.{Viewing, Viewed}
-use Rattle.tickets.specs.declared.Kind.{Kind}
 use Rattle.tickets.specs.declared.Kind.TheVariants.{View}
 use Rattle.tickets.specs.declared.StepAnswer.TheVariants as Answer
 use Rattle.tickets.specs.declared.Ticket as Slot

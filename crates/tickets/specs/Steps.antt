@@ -1,5 +1,5 @@
 -- "Tickets and steps": one step is one conditional swap; a look is one read.
-use Rattle.std.specs.Prelude.{ℕ, ◌+◌, Bool, true, false, cond, List, [], ◌∷◌, map, get_or, set, eqb, ltb}
+use Rattle.std.specs.Prelude.{ℕ, ◌+◌, cond, List, [], ◌∷◌, map, get_or, set, eqb, ltb}
 use Rattle.words.specs.Words.{Words, is_held, mark_of, holder_of, read_of, swap_of, any_value}
 use Rattle.tickets.specs.Tickets.{Ticket, no_ticket, target_at, targets_in, named_in}
 use Rattle.tickets.specs.declared.Target.{Target}

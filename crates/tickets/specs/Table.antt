@@ -1,6 +1,6 @@
 -- The table as the code has it: a small ticket in each team's slot, and the targets of all in one array. What it says, as a table of the definitions' tickets, is gathered here.
-use Rattle.std.specs.Prelude.{ℕ, zero, suc, ◌+◌, ◌*◌, ◌≤◌, ◌<◌, min, ◌≡◌, Bool, true, false, cond, List, [], ◌∷◌, ◌≢◌, get_or, set, replicate, eqb, ltb}
-use Rattle.words.specs.Words.{team_count, most_targets}
+use Rattle.std.specs.Prelude.{ℕ, zero, suc, ◌+◌, ◌*◌, ◌≤◌, ◌<◌, min, ◌≡◌, Bool, false, cond, List, [], ◌∷◌, get_or, set, eqb, ltb}
+use Rattle.words.specs.Words.{most_targets}
 use Rattle.tickets.specs.declared.Phase.{Phase}
 use Rattle.tickets.specs.declared.Phase.TheVariants.{NoTicket, Claiming, Putting, GivingBack, Viewing, Viewed}
 use Rattle.tickets.specs.declared.Kind.{Kind}

@@ -1,14 +1,12 @@
 -- `decoder::all_in_book` meets its contract: what is asked of all words is asked of those not yet passed.
 use borrow.Author.Tests.{lt-ltb, le-ltb}
-use mathlib.Core.Path.{◌≡◌, refl, sym, ◌∙◌}
+use mathlib.Core.Path.{refl, sym, ◌∙◌}
 use mathlib.Core.Bool.{true, false}
-use Prim.Native.Nat.{◌-◌, ◌≤◌}
+use Prim.Native.Nat.{◌≤◌}
 use native.Mathlib.Omega.{arith}
-use lib.ListN.{length, get_or, take, drop}
+use lib.ListN.{length, get_or}
 use Rattle.words.specs.Words.{words_in_book}
-use Rattle.edits.specs.Views.{all_in_book}
 use Rattle.decoder.proofs.Viewed.{book_next, all_passed}
-use borrow.Author.Rules.{rules}
 use Rattle.decoder.proofs.all_in_book.Goals as goal
 
 pub loop-k-init : goal.loop-k-init

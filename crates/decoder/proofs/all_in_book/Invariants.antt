@@ -1,12 +1,7 @@
-use borrow.Author.Tests.{lt-ltb, le-ltb}
-use mathlib.Core.Path.{◌≡◌, refl, sym, ◌∙◌}
-use mathlib.Core.Bool.{true, false}
-use Prim.Native.Nat.{◌-◌, ◌≤◌}
-use native.Mathlib.Omega.{arith}
-use lib.ListN.{length, get_or, take, drop}
-use Rattle.words.specs.Words.{words_in_book}
+use mathlib.Core.Path.{◌≡◌}
+use Prim.Native.Nat.{◌-◌}
+use lib.ListN.{take, drop}
 use Rattle.edits.specs.Views.{all_in_book}
-use Rattle.decoder.proofs.Viewed.{book_next, all_passed}
 use Rattle.decoder.proofs.all_in_book.Given as goal
 
 abbrev pub invariant-loop-k : goal.invariant-loop-k

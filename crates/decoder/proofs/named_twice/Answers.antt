@@ -2,7 +2,6 @@
 use mathlib.Core.Path.{sym, ◌∙◌}
 use Rattle.words.specs.Tests.{some_holds}
 use Rattle.frames.proofs.Ranges.{twice_last}
-use borrow.Author.Rules.{rules}
 use Rattle.decoder.proofs.named_twice.Goals as goal
 
 pub returns-then-same_leg : goal.returns-then-same_leg

@@ -2,13 +2,12 @@
 use mathlib.Core.Path.{◌≡◌, refl, sym, ap, ◌∙◌}
 use mathlib.Core.List.{List}
 use native.Mathlib.Omega.{arith}
-use Prim.Native.Nat.{ℕ, ◌-◌, ◌≤◌, ◌<◌}
+use Prim.Native.Nat.{ℕ, ◌<◌}
 use lib.ListN.{set}
 use Rattle.words.specs.Words.{most_named}
 use Rattle.edits.specs.Views.{padded_names}
 use Rattle.frames.specs.Numbers.{numbers16}
 use Rattle.decoder.proofs.Viewed.{word_read, many_words}
-use borrow.Author.Rules.{rules}
 use Rattle.decoder.proofs.named_words.Goals as goal
 
 pub loop-k-init : goal.loop-k-init

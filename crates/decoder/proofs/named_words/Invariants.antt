@@ -1,12 +1,7 @@
-use mathlib.Core.Path.{◌≡◌, refl, sym, ap, ◌∙◌}
-use mathlib.Core.List.{List}
-use native.Mathlib.Omega.{arith}
-use Prim.Native.Nat.{ℕ, ◌-◌, ◌≤◌, ◌<◌}
-use lib.ListN.{set}
-use Rattle.words.specs.Words.{most_named}
+use mathlib.Core.Path.{◌≡◌}
+use Prim.Native.Nat.{◌-◌, ◌≤◌}
 use Rattle.edits.specs.Views.{padded_names}
 use Rattle.frames.specs.Numbers.{numbers16}
-use Rattle.decoder.proofs.Viewed.{word_read, many_words}
 use Rattle.decoder.proofs.named_words.Given as goal
 
 abbrev pub invariant-loop-k : goal.invariant-loop-k

@@ -6,7 +6,6 @@ use Rattle.frames.specs.Fields.{angles_fit_at, measure_read_at}
 use Rattle.frames.proofs.Ranges.{first_of, next_of, none_of}
 use Rattle.decoder.proofs.Answered.{field_out, measure_if_out, measure_if_in}
 use Rattle.decoder.proofs.Decoded.{refused_11, read_as_lem, add_refused, add_read_lem, add_decoded, add_repeats}
-use borrow.Author.Rules.{rules}
 use Rattle.decoder.proofs.read_add.Goals as goal
 
 pub returns-in_default : goal.returns-in_default

@@ -6,7 +6,6 @@ use mathlib.Core.Bool.{true≢false}
 use Rattle.frames.specs.Fields.{measure_size, angles_fit_at, measure_read_at, measure_field_at}
 use Rattle.decoder.proofs.Answered.{field_out, measure_if_out, measure_if_in}
 use Rattle.decoder.proofs.Decoded.{refused_11, read_as_lem, correct_refused, correct_read_lem, correct_decoded, correct_repeats}
-use borrow.Author.Rules.{rules}
 use Rattle.decoder.proofs.read_correct.Goals as goal
 
 pub returns-in_default : goal.returns-in_default

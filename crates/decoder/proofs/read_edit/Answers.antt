@@ -5,10 +5,9 @@ use Prim.Native.Nat.{ℕ, ◌+◌, ◌*◌, ◌-◌}
 use lib.Dec.{eqb}
 use Rattle.words.specs.Tests.{all_hold}
 use Rattle.frames.specs.Numbers.{Bytes}
-use Rattle.frames.specs.Requests.{add_kind, correct_kind, strike_kind, move_kind, add_minutes_kind, correct_minutes_kind, length_of_kind, add_in, correct_in, add_in_minutes, correct_in_minutes, edit_of_kind, angles_of_kind}
+use Rattle.frames.specs.Requests.{add_kind, correct_kind, add_minutes_kind, correct_minutes_kind, length_of_kind, add_in, correct_in, add_in_minutes, correct_in_minutes, edit_of_kind, angles_of_kind}
 use Rattle.frames.specs.Fields.{measure_size, add_read, correct_read, read_edit}
 use Rattle.frames.proofs.Headers.{move_left}
-use borrow.Author.Rules.{rules}
 use Rattle.decoder.proofs.read_edit.Goals as goal
 
 -- A fact about the two kinds of an edit that has two.

@@ -8,7 +8,6 @@ use Rattle.frames.specs.Requests.{move_in, taken_at}
 use Rattle.frames.proofs.Ranges.{first_of, next_of, none_of}
 use Rattle.decoder.proofs.Answered.{field_out, taken_field_out}
 use Rattle.decoder.proofs.Decoded.{refused_10, refused_11, read_as_lem, move_fits, move_decoded, move_repeats}
-use borrow.Author.Rules.{rules}
 use Rattle.decoder.proofs.read_move.Goals as goal
 
 pub returns-in_default : goal.returns-in_default

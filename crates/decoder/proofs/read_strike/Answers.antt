@@ -7,7 +7,6 @@ use Rattle.frames.specs.Requests.{strike_in, taken_at}
 use Rattle.frames.proofs.Ranges.{first_of, next_of, none_of}
 use Rattle.decoder.proofs.Answered.{field_out, measure_field_out, taken_field_out}
 use Rattle.decoder.proofs.Decoded.{refused_10, refused_11, read_as_lem, strike_fits, strike_decoded, strike_repeats}
-use borrow.Author.Rules.{rules}
 use Rattle.decoder.proofs.read_strike.Goals as goal
 
 pub returns-in_default : goal.returns-in_default

@@ -2,7 +2,6 @@
 use borrow.Author.Tests.{not-true, not-false}
 use mathlib.Core.Path.{sym, ◌∙◌}
 use Rattle.decoder.proofs.Viewed.{miscounted, outside, repeated, view_read_lem}
-use borrow.Author.Rules.{rules}
 use Rattle.decoder.proofs.read_view.Goals as goal
 
 pub returns-then-n-count : goal.returns-then-n-count

@@ -2,7 +2,6 @@
 use borrow.Author.Tests.{eq-eqb, ne_eqb}
 use Rattle.words.specs.Tests.{all_hold}
 use Rattle.frames.proofs.Ranges.{test_alone}
-use borrow.Author.Rules.{rules}
 use Rattle.decoder.proofs.same_leg.Goals as goal
 
 pub returns-then-leg-eq0 : goal.returns-then-leg-eq0

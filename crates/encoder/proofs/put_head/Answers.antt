@@ -2,7 +2,6 @@
 use mathlib.Core.Path.{refl, ap, ◌∙◌}
 use lib.Seq.{sets}
 use Rattle.frames.specs.Numbers.{Bytes, bytes16}
-use borrow.Author.Rules.{rules}
 use Rattle.encoder.proofs.put_head.Goals as goal
 
 pub returns : goal.returns

@@ -8,7 +8,6 @@ use Rattle.frames.specs.Numbers.{Bytes, bytes64}
 use Rattle.frames.specs.Answers.{frame_of, answer_frame, written}
 use Rattle.frames.proofs.Framed.{fitted}
 use Rattle.frames.proofs.Put.{all_written_lem}
-use borrow.Author.Rules.{rules}
 use Rattle.encoder.proofs.write_look.Goals as goal
 
 pub returns-in-Held : goal.returns-in-Held

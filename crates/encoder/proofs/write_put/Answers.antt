@@ -3,7 +3,6 @@ use Rattle.tickets.specs.declared.StepAnswer.TheVariants.{Put}
 use Rattle.frames.specs.declared.Answer.TheVariants as Answer
 use Rattle.frames.proofs.Framed.{fitted}
 use Rattle.frames.specs.Answers.{answer_frame}
-use borrow.Author.Rules.{rules}
 use Rattle.encoder.proofs.write_put.Goals as goal
 
 pub returns : goal.returns

@@ -1,9 +1,9 @@
 -- `encoder::write_seen` meets its contract: each value is put behind those before it, and the first behind the length and the kind.
-use Prim.Native.Nat.{ℕ, ◌-◌, ◌≤◌}
-use mathlib.Core.Path.{◌≡◌, refl, sym, ap, ◌∙◌}
+use Prim.Native.Nat.{ℕ}
+use mathlib.Core.Path.{◌≡◌, refl, ap, ◌∙◌}
 use mathlib.Core.List.{List}
 use native.Mathlib.Omega.{arith}
-use lib.ListN.{length, take}
+use lib.ListN.{take}
 use lib.Seq.{sets}
 use Rattle.tickets.specs.declared.StepAnswer.TheVariants.{Seen}
 use Rattle.tickets.specs.Steps.{values_from}
@@ -11,7 +11,7 @@ use Rattle.frames.specs.declared.Answer.TheVariants as Answer
 use Rattle.frames.specs.Numbers.{fields64}
 use Rattle.frames.specs.Answers.{frame_of, answer_frame, written}
 use Rattle.frames.proofs.Framed.{fitted}
-use Rattle.frames.proofs.Put.{next_put, values_written, take_least}
+use Rattle.frames.proofs.Put.{next_put, values_written}
 use Rattle.encoder.proofs.Values.{first_shown}
 use borrow.Author.Rules.{rules}
 use Rattle.encoder.proofs.write_seen.Goals as goal

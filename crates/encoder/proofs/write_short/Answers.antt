@@ -5,7 +5,6 @@ use lib.Seq.{sets}
 use Rattle.frames.specs.Numbers.{Bytes, bytes16}
 use Rattle.frames.specs.Answers.{frame_of}
 use Rattle.frames.proofs.Put.{all_written_lem}
-use borrow.Author.Rules.{rules}
 use Rattle.encoder.proofs.write_short.Goals as goal
 
 pub returns : goal.returns

@@ -9,7 +9,6 @@ use Rattle.frames.specs.Numbers.{Bytes, bytes16, bytes32}
 use Rattle.frames.specs.Answers.{frame_of, answer_frame}
 use Rattle.frames.proofs.Framed.{fitted}
 use Rattle.frames.proofs.Put.{all_written_lem}
-use borrow.Author.Rules.{rules}
 use Rattle.encoder.proofs.write_stale.Goals as goal
 
 pub returns : goal.returns

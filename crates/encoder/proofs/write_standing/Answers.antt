@@ -2,7 +2,6 @@
 use Rattle.frames.specs.declared.Answer.TheVariants as Answer
 use Rattle.frames.proofs.Framed.{fitted}
 use Rattle.frames.specs.Answers.{answer_frame}
-use borrow.Author.Rules.{rules}
 use Rattle.encoder.proofs.write_standing.Goals as goal
 
 pub returns : goal.returns

@@ -2,7 +2,6 @@
 use mathlib.Core.Path.{sym, ap, ◌∙◌}
 use mathlib.Core.Bool.{cond}
 use Prim.Native.Nat.{ℕ}
-use borrow.Author.Rules.{rules}
 use Rattle.legs.proofs.compass_taken.Goals as goal
 
 pub returns-then-is_plumb : goal.returns-then-is_plumb

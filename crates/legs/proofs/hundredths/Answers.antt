@@ -2,7 +2,6 @@
 use mathlib.Core.Path.{sym}
 use native.Mathlib.Omega.{arith}
 use Rattle.legs.proofs.Minutes.{by_thirds}
-use borrow.Author.Rules.{rules}
 use Rattle.legs.proofs.hundredths.Goals as goal
 
 pub returns : goal.returns

@@ -2,7 +2,6 @@
 use native.Mathlib.Omega.{arith}
 use mathlib.Core.Path.{sym, ◌∙◌}
 use Rattle.legs.proofs.Figures.{no_measure, measure_plumb, measure_sloping}
-use borrow.Author.Rules.{rules}
 use Rattle.legs.proofs.is_measure.Goals as goal
 
 pub returns-then-distance-lt1 : goal.returns-then-distance-lt1

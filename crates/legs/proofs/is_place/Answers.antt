@@ -2,7 +2,6 @@
 use native.Mathlib.Omega.{arith}
 use mathlib.Core.Path.{sym}
 use Rattle.legs.proofs.Figures.{no_place, place_differs}
-use borrow.Author.Rules.{rules}
 use Rattle.legs.proofs.is_place.Goals as goal
 
 pub returns-then-number-lt1 : goal.returns-then-number-lt1

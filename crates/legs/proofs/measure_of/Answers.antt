@@ -2,13 +2,12 @@
 use native.Mathlib.Omega.{arith}
 use mathlib.Core.Path.{◌≡◌, ap, ◌∙◌}
 use mathlib.Core.Bool.{cond}
-use Prim.Native.Nat.{ℕ, ◌+◌, ◌*◌, ◌≤◌}
+use Prim.Native.Nat.{ℕ, ◌+◌, ◌*◌}
 use lib.IntN.{ℤ}
 use Rattle.legs.specs.Legs.{compass_unit, clino_unit, clino_offset, is_plumb, compass_taken}
 use Rattle.legs.specs.Reading.{clino_at}
 use Rattle.legs.proofs.Ranges.{measure_fits_lem, taken_most}
 use Rattle.legs.proofs.Clino.{kept16, clino_back}
-use borrow.Author.Rules.{rules}
 use Rattle.legs.proofs.measure_of.Goals as goal
 
 -- The compass as it is taken at an offset is that at the clino.

@@ -2,7 +2,6 @@
 use mathlib.Core.Path.{sym}
 use native.Mathlib.Omega.{arith}
 use Rattle.legs.proofs.Ranks.{rank_small, all_ranks, newest_at, count_at}
-use borrow.Author.Rules.{rules}
 use Rattle.legs.proofs.newest_position.Goals as goal
 
 pub bounds-ranks-passage : goal.bounds-ranks-passage

@@ -2,7 +2,6 @@
 use mathlib.Core.Path.{◌∙◌, sym, ap}
 use Prim.Native.Nat.{ℕ, ◌+◌, ◌%◌}
 use Rattle.legs.proofs.Ranks.{passage_word_at, leg_word_at}
-use borrow.Author.Rules.{rules}
 use Rattle.legs.proofs.position.Goals as goal
 
 pub returns-then-word : goal.returns-then-word

@@ -12,7 +12,6 @@ use Rattle.legs.specs.Reading.{passage_in, stations_in, clino_at, is_place, is_m
 use Rattle.legs.proofs.Clino.{kept16, clino_in_range_lem}
 use Rattle.legs.proofs.Figures.{in_place, in_measure}
 use Rattle.legs.proofs.RoundTrip.{reading_no_place, reading_no_measure, reading_is}
-use borrow.Author.Rules.{rules}
 use Rattle.legs.proofs.read_leg.Goals as goal
 
 pub returns-then-not-is_place : goal.returns-then-not-is_place

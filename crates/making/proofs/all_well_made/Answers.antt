@@ -1,7 +1,7 @@
 -- `making::all_well_made` meets its contract. The loop's invariant: the test from the next slot on is the test of all.
 use mathlib.Core.Path.{◌≡◌, refl, sym, ap, ◌∙◌}
 use mathlib.Core.Bool.{false, cond}
-use Prim.Native.Nat.{◌+◌, ◌-◌, ◌≤◌}
+use Prim.Native.Nat.{◌+◌, ◌-◌}
 use native.Mathlib.Omega.{arith}
 use borrow.Author.Tests.{not-true, not-false}
 use Rattle.words.specs.Words.{team_count}
@@ -9,7 +9,6 @@ use Rattle.tickets.specs.Tickets.{ticket_of, slot_well_made, well_made_from}
 use Rattle.tickets.specs.Table.{table_of, table_with}
 use Rattle.tickets.proofs.MadeTables.{well_made_next, well_made_none}
 use Rattle.tickets.proofs.Tables.{slot_gathered}
-use borrow.Author.Rules.{rules}
 use Rattle.making.proofs.all_well_made.Goals as goal
 
 pub loop-team-init : goal.loop-team-init

@@ -1,16 +1,13 @@
 -- `making::any_stands` meets its contract: the teams from the last to the first, whatever targets stand behind the slots.
-use mathlib.Core.Path.{◌≡◌, refl, sym, ap, ◌∙◌}
+use mathlib.Core.Path.{refl, sym, ap, ◌∙◌}
 use mathlib.Core.Bool.{true, false}
-use mathlib.Core.List.{List}
-use Prim.Native.Nat.{ℕ, ◌-◌, ◌≤◌, ◌<◌}
+use Prim.Native.Nat.{◌-◌}
 use native.Mathlib.Omega.{arith}
-use Rattle.words.specs.Words.{team_count}
-use Rattle.tickets.specs.Tickets.{has_ticket, stands_below}
+use Rattle.tickets.specs.Tickets.{has_ticket}
 use Rattle.tickets.specs.Table.{slot_of, table_of, table_with}
 use Rattle.tickets.proofs.Gathering.{gathered_has}
 use Rattle.tickets.proofs.Tables.{slot_gathered}
 use Rattle.tickets.proofs.Standing.{below_next, below_none}
-use borrow.Author.Rules.{rules}
 use Rattle.making.proofs.any_stands.Goals as goal
 
 pub loop-team-init : goal.loop-team-init

@@ -1,14 +1,9 @@
-use mathlib.Core.Path.{◌≡◌, refl, sym, ap, ◌∙◌}
-use mathlib.Core.Bool.{true, false}
+use mathlib.Core.Path.{◌≡◌}
 use mathlib.Core.List.{List}
-use Prim.Native.Nat.{ℕ, ◌-◌, ◌≤◌, ◌<◌}
-use native.Mathlib.Omega.{arith}
+use Prim.Native.Nat.{ℕ, ◌≤◌}
 use Rattle.words.specs.Words.{team_count}
-use Rattle.tickets.specs.Tickets.{has_ticket, stands_below}
-use Rattle.tickets.specs.Table.{slot_of, table_of, table_with}
-use Rattle.tickets.proofs.Gathering.{gathered_has}
-use Rattle.tickets.proofs.Tables.{slot_gathered}
-use Rattle.tickets.proofs.Standing.{below_next, below_none}
+use Rattle.tickets.specs.Tickets.{stands_below}
+use Rattle.tickets.specs.Table.{table_of, table_with}
 use Rattle.making.proofs.any_stands.Given as goal
 
 abbrev pub invariant-loop-team : goal.invariant-loop-team

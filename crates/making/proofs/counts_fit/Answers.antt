@@ -1,7 +1,6 @@
 -- `making::counts_fit` meets its contract: each phase has its own test.
 use mathlib.Core.Path.{sym, ap, ◌∙◌}
 use Rattle.tickets.specs.Tickets.{counts_well_made}
-use borrow.Author.Rules.{rules}
 use Rattle.making.proofs.counts_fit.Goals as goal
 
 pub returns-in-Claiming : goal.returns-in-Claiming

@@ -1,12 +1,9 @@
 -- `making::is_named_from` meets its contract: what is asked of all names is asked of those not yet passed.
 use native.Mathlib.Omega.{arith}
-use mathlib.Core.Path.{◌≡◌, refl, sym, ap, ◌∙◌}
-use Prim.Native.Nat.{◌-◌}
-use Rattle.words.specs.Tests.{occurs}
+use mathlib.Core.Path.{refl, sym, ap, ◌∙◌}
 use Rattle.tickets.specs.Table.{targets_of}
-use Rattle.tickets.proofs.Passing.{names_from, named_here, named_later, not_named}
+use Rattle.tickets.proofs.Passing.{named_here, named_later, not_named}
 use Rattle.making.proofs.Reading.{read_target}
-use borrow.Author.Rules.{rules}
 use Rattle.making.proofs.is_named_from.Goals as goal
 
 pub loop-k-init : goal.loop-k-init

@@ -1,10 +1,8 @@
-use native.Mathlib.Omega.{arith}
-use mathlib.Core.Path.{◌≡◌, refl, sym, ap, ◌∙◌}
+use mathlib.Core.Path.{◌≡◌}
 use Prim.Native.Nat.{◌-◌}
 use Rattle.words.specs.Tests.{occurs}
 use Rattle.tickets.specs.Table.{targets_of}
-use Rattle.tickets.proofs.Passing.{names_from, named_here, named_later, not_named}
-use Rattle.making.proofs.Reading.{read_target}
+use Rattle.tickets.proofs.Passing.{names_from}
 use Rattle.making.proofs.is_named_from.Given as goal
 
 abbrev pub invariant-loop-k : goal.invariant-loop-k

@@ -1,16 +1,13 @@
 -- `making::is_target` meets its contract: what is asked of all targets is asked of those not yet passed.
 use native.Mathlib.Omega.{arith}
-use mathlib.Core.Path.{◌≡◌, sym, ap, ◌∙◌}
+use mathlib.Core.Path.{sym, ap, ◌∙◌}
 use mathlib.Core.List.{List, map}
-use Prim.Native.Nat.{◌-◌}
 use Rattle.words.specs.Tests.{occurs}
 use Rattle.tickets.specs.declared.Target.{Target}
-use Rattle.tickets.specs.Tickets.{words_in}
 use Rattle.tickets.specs.Table.{targets_of}
 use Rattle.tickets.proofs.TargetLists.{all_targets}
-use Rattle.tickets.proofs.Passing.{words_from, claims_here, claims_later, claims_none}
+use Rattle.tickets.proofs.Passing.{claims_here, claims_later, claims_none}
 use Rattle.making.proofs.Reading.{read_target}
-use borrow.Author.Rules.{rules}
 use Rattle.making.proofs.is_target.Goals as goal
 
 pub loop-k-init : goal.loop-k-init

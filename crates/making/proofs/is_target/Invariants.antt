@@ -1,14 +1,9 @@
-use native.Mathlib.Omega.{arith}
-use mathlib.Core.Path.{◌≡◌, sym, ap, ◌∙◌}
-use mathlib.Core.List.{List, map}
+use mathlib.Core.Path.{◌≡◌}
 use Prim.Native.Nat.{◌-◌}
 use Rattle.words.specs.Tests.{occurs}
-use Rattle.tickets.specs.declared.Target.{Target}
 use Rattle.tickets.specs.Tickets.{words_in}
 use Rattle.tickets.specs.Table.{targets_of}
-use Rattle.tickets.proofs.TargetLists.{all_targets}
-use Rattle.tickets.proofs.Passing.{words_from, claims_here, claims_later, claims_none}
-use Rattle.making.proofs.Reading.{read_target}
+use Rattle.tickets.proofs.Passing.{words_from}
 use Rattle.making.proofs.is_target.Given as goal
 
 abbrev pub invariant-loop-k : goal.invariant-loop-k

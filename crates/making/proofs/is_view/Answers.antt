@@ -3,7 +3,6 @@ use mathlib.Core.Path.{sym, ap, ◌∙◌}
 use Rattle.tickets.specs.Tickets.{is_view}
 use Rattle.tickets.specs.Table.{phase_by}
 use Rattle.making.proofs.Parts.{edit_no_view, stale_no_view, view_is_view}
-use borrow.Author.Rules.{rules}
 use Rattle.making.proofs.is_view.Goals as goal
 
 pub returns-in-Edit : goal.returns-in-Edit

@@ -1,17 +1,15 @@
 -- `making::names_distinct` meets its contract: each name is looked for among those after it.
 use native.Mathlib.Omega.{arith}
-use mathlib.Core.Path.{◌≡◌, sym, ap, ◌∙◌}
+use mathlib.Core.Path.{sym, ap, ◌∙◌}
 use mathlib.Core.Bool.{false, cond}
 use mathlib.Core.List.{List, map}
 use Prim.Native.Nat.{ℕ, ◌+◌, ◌-◌}
 use Rattle.words.specs.Tests.{occurs, distinct}
 use Rattle.tickets.specs.declared.Target.{Target}
-use Rattle.tickets.specs.Tickets.{named_in}
 use Rattle.tickets.specs.Table.{targets_of}
 use Rattle.tickets.proofs.TargetLists.{all_targets}
 use Rattle.tickets.proofs.Passing.{names_from, distinct_next, distinct_none}
 use Rattle.making.proofs.Reading.{read_target}
-use borrow.Author.Rules.{rules}
 use Rattle.making.proofs.names_distinct.Goals as goal
 
 pub loop-k-init : goal.loop-k-init

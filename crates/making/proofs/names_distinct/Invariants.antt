@@ -1,15 +1,9 @@
-use native.Mathlib.Omega.{arith}
-use mathlib.Core.Path.{◌≡◌, sym, ap, ◌∙◌}
-use mathlib.Core.Bool.{false, cond}
-use mathlib.Core.List.{List, map}
-use Prim.Native.Nat.{ℕ, ◌+◌, ◌-◌}
-use Rattle.words.specs.Tests.{occurs, distinct}
-use Rattle.tickets.specs.declared.Target.{Target}
+use mathlib.Core.Path.{◌≡◌}
+use Prim.Native.Nat.{◌-◌}
+use Rattle.words.specs.Tests.{distinct}
 use Rattle.tickets.specs.Tickets.{named_in}
 use Rattle.tickets.specs.Table.{targets_of}
-use Rattle.tickets.proofs.TargetLists.{all_targets}
-use Rattle.tickets.proofs.Passing.{names_from, distinct_next, distinct_none}
-use Rattle.making.proofs.Reading.{read_target}
+use Rattle.tickets.proofs.Passing.{names_from}
 use Rattle.making.proofs.names_distinct.Given as goal
 
 abbrev pub invariant-loop-k : goal.invariant-loop-k

@@ -5,7 +5,6 @@ use borrow.Author.Tests.{not-true, not-false}
 use Rattle.words.proofs.Tests.{next_test, failed_test, last_test}
 use Rattle.tickets.specs.Tickets.{words_in, named_in, names_well_made}
 use Rattle.tickets.specs.Table.{targets_of}
-use borrow.Author.Rules.{rules}
 use Rattle.making.proofs.names_fit.Goals as goal
 
 pub returns-then-not-view : goal.returns-then-not-view

@@ -7,12 +7,11 @@ use mathlib.Core.List.{List, map}
 use Prim.Native.Nat.{ℕ, ◌+◌, ◌-◌}
 use Rattle.words.specs.Tests.{occurs, all_occur}
 use Rattle.tickets.specs.declared.Target.{Target}
-use Rattle.tickets.specs.Tickets.{words_in, named_in}
+use Rattle.tickets.specs.Tickets.{words_in}
 use Rattle.tickets.specs.Table.{targets_of}
 use Rattle.tickets.proofs.TargetLists.{all_targets}
 use Rattle.tickets.proofs.Passing.{names_from, named_next, named_none}
 use Rattle.making.proofs.Reading.{read_target}
-use borrow.Author.Rules.{rules}
 use Rattle.making.proofs.names_targets.Goals as goal
 
 pub loop-k-init : goal.loop-k-init

@@ -2,7 +2,6 @@
 use mathlib.Core.Path.{sym, ◌∙◌}
 use borrow.Author.Tests.{lt-ltb, le-ltb}
 use Rattle.words.proofs.Tests.{next_test, failed_test, last_test}
-use borrow.Author.Rules.{rules}
 use Rattle.making.proofs.numbers_well_made.Goals as goal
 
 pub returns-then-quoted-lt-HELD : goal.returns-then-quoted-lt-HELD

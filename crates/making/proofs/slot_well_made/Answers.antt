@@ -1,8 +1,6 @@
 -- `making::slot_well_made` meets its contract: the ticket is asked only where one stands.
 use mathlib.Core.Path.{sym, ◌∙◌}
-use borrow.Author.Tests.{not-true}
 use Rattle.making.proofs.Parts.{passes_by}
-use borrow.Author.Rules.{rules}
 use Rattle.making.proofs.slot_well_made.Goals as goal
 
 pub returns-then-stands : goal.returns-then-stands

@@ -2,7 +2,6 @@
 use mathlib.Core.Path.{sym, ◌∙◌}
 use borrow.Author.Tests.{lt-ltb, le-ltb}
 use Rattle.words.proofs.Tests.{next_test, failed_test, last_test}
-use borrow.Author.Rules.{rules}
 use Rattle.making.proofs.stale_counts_fit.Goals as goal
 
 pub returns-then-done-claimed : goal.returns-then-done-claimed

@@ -1,7 +1,6 @@
 -- `making::target_well_made` meets its contract: the target's three numbers are tested.
 use mathlib.Core.Path.{◌∙◌}
 use Rattle.tickets.specs.Tickets.{target, target_well_made}
-use borrow.Author.Rules.{rules}
 use Rattle.making.proofs.target_well_made.Goals as goal
 
 pub returns : goal.returns

@@ -4,12 +4,11 @@ use native.Mathlib.Omega.{arith}
 use mathlib.Core.Path.{◌≡◌, sym, ap, ◌∙◌}
 use mathlib.Core.Bool.{true, false, cond}
 use Prim.Native.Nat.{◌+◌, ◌-◌}
-use Rattle.tickets.specs.Tickets.{target_at, targets_from, targets_in, target_well_made, all_well_made}
+use Rattle.tickets.specs.Tickets.{target_at, targets_from, target_well_made, all_well_made}
 use Rattle.tickets.specs.Table.{targets_of}
 use Rattle.tickets.proofs.TargetLists.{all_targets}
 use Rattle.tickets.proofs.Made.{peel, none_left}
 use Rattle.making.proofs.Reading.{read_target}
-use borrow.Author.Rules.{rules}
 use Rattle.making.proofs.targets_well_made.Goals as goal
 
 pub loop-k-init : goal.loop-k-init

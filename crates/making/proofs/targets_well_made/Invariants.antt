@@ -1,13 +1,7 @@
-use borrow.Author.Tests.{not-true, not-false}
-use native.Mathlib.Omega.{arith}
-use mathlib.Core.Path.{◌≡◌, sym, ap, ◌∙◌}
-use mathlib.Core.Bool.{true, false, cond}
-use Prim.Native.Nat.{◌+◌, ◌-◌}
-use Rattle.tickets.specs.Tickets.{target_at, targets_from, targets_in, target_well_made, all_well_made}
+use mathlib.Core.Path.{◌≡◌}
+use Prim.Native.Nat.{◌-◌}
+use Rattle.tickets.specs.Tickets.{targets_from, targets_in, all_well_made}
 use Rattle.tickets.specs.Table.{targets_of}
-use Rattle.tickets.proofs.TargetLists.{all_targets}
-use Rattle.tickets.proofs.Made.{peel, none_left}
-use Rattle.making.proofs.Reading.{read_target}
 use Rattle.making.proofs.targets_well_made.Given as goal
 
 abbrev pub invariant-loop-k : goal.invariant-loop-k

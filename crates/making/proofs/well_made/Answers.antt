@@ -1,14 +1,13 @@
 -- `making::well_made` meets its contract: the parts of the definition, in its order.
 use Prim.Native.Nat.{◌≤◌, ◌<◌}
 use mathlib.Core.Path.{◌≡◌, sym, ap, subst, ◌∙◌}
-use mathlib.Core.Bool.{Bool, true, false, cond}
+use mathlib.Core.Bool.{true, false, cond}
 use native.Mathlib.Nat.{le_trans}
 use borrow.Author.Tests.{not-true, not-false}
 use Rattle.tickets.specs.Tickets.{words_in, named_in, most_of, counts_well_made, names_well_made}
 use Rattle.tickets.specs.Table.{claims_in, phase_by, targets_of}
 use Rattle.tickets.proofs.Made.{most_of_lem}
 use Rattle.making.proofs.Parts.{most_told, none_stands, many_targets, one_bad, counts_bad, by_names}
-use borrow.Author.Rules.{rules}
 use Rattle.making.proofs.well_made.Goals as goal
 
 pub returns-then-ticket : goal.returns-then-ticket

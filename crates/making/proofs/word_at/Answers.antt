@@ -3,7 +3,6 @@ use Prim.Native.Nat.{ℕ}
 use mathlib.Core.Path.{ap}
 use native.Mathlib.Omega.{arith}
 use lib.ListN.{get_or}
-use borrow.Author.Rules.{rules}
 use Rattle.making.proofs.word_at.Goals as goal
 
 pub offset_bounds-targets-at : goal.offset_bounds-targets-at

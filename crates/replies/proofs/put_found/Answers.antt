@@ -4,7 +4,6 @@ use Rattle.tickets.specs.declared.StepAnswer.TheVariants.{Found}
 use Rattle.frames.specs.declared.Answer.TheVariants as Answer
 use Rattle.frames.specs.Answers.{answer_frame}
 use Rattle.replies.proofs.Placing.{put_at}
-use borrow.Author.Rules.{rules}
 use Rattle.replies.proofs.put_found.Goals as goal
 
 pub returns : goal.returns

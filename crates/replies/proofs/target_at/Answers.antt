@@ -5,7 +5,6 @@ use native.Mathlib.Omega.{arith}
 use lib.ListN.{get_or}
 use Rattle.words.specs.Words.{words_in_book}
 use Rattle.tickets.specs.Tickets.{target}
-use borrow.Author.Rules.{rules}
 use Rattle.replies.proofs.target_at.Goals as goal
 
 pub overflow_cast-word : goal.overflow_cast-word

@@ -1,9 +1,7 @@
 -- `replies::waited` meets its contract: one more try, and the holder told.
-use mathlib.Core.Path.{◌≡◌, ap, subst}
-use Rattle.words.specs.Words.{holder_of}
+use mathlib.Core.Path.{subst}
 use Rattle.tickets.specs.declared.StepAnswer.TheVariants.{Waiting}
 use Rattle.replies.specs.Leaving.{Answered}
-use borrow.Author.Rules.{rules}
 use Rattle.replies.proofs.waited.Goals as goal
 
 pub returns : goal.returns

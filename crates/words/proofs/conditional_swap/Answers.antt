@@ -1,7 +1,6 @@
 -- `words::conditional_swap` meets its contract: the two branches are the two cases of `swap_of`.
 use borrow.Author.Tests.{eq-eqb, ne_eqb}
 use mathlib.Core.Path.{refl}
-use borrow.Author.Rules.{rules}
 use Rattle.words.proofs.conditional_swap.Goals as goal
 
 pub returns-then-found-expected : goal.returns-then-found-expected

@@ -1,12 +1,10 @@
 -- `words::distinct` meets its contract: what is asked of all numbers is asked of those not yet passed.
-use mathlib.Core.Path.{◌≡◌, refl, sym, ◌∙◌}
+use mathlib.Core.Path.{refl, sym, ◌∙◌}
 use mathlib.Core.Bool.{true, false}
-use Prim.Native.Nat.{◌-◌, ◌≤◌}
+use Prim.Native.Nat.{◌≤◌}
 use native.Mathlib.Omega.{arith}
-use lib.ListN.{length, take, drop}
-use Rattle.words.specs.Tests.{distinct}
+use lib.ListN.{length}
 use Rattle.words.proofs.Numbers.{distinct_next, none_twice}
-use borrow.Author.Rules.{rules}
 use Rattle.words.proofs.distinct.Goals as goal
 
 pub loop-k-init : goal.loop-k-init

@@ -1,10 +1,7 @@
-use mathlib.Core.Path.{◌≡◌, refl, sym, ◌∙◌}
-use mathlib.Core.Bool.{true, false}
-use Prim.Native.Nat.{◌-◌, ◌≤◌}
-use native.Mathlib.Omega.{arith}
-use lib.ListN.{length, take, drop}
+use mathlib.Core.Path.{◌≡◌}
+use Prim.Native.Nat.{◌-◌}
+use lib.ListN.{take, drop}
 use Rattle.words.specs.Tests.{distinct}
-use Rattle.words.proofs.Numbers.{distinct_next, none_twice}
 use Rattle.words.proofs.distinct.Given as goal
 
 abbrev pub invariant-loop-k : goal.invariant-loop-k

@@ -3,7 +3,6 @@ use borrow.Author.Tests.{not-true, not-false, leb-true}
 use mathlib.Core.Path.{sym, ◌∙◌}
 use native.Mathlib.Omega.{arith}
 use Rattle.words.proofs.Marks.{held_by_nobody, held_by_team, held_by_none}
-use borrow.Author.Rules.{rules}
 use Rattle.words.proofs.holder.Goals as goal
 
 pub returns-then-not-is_held : goal.returns-then-not-is_held

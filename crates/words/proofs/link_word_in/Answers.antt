@@ -1,10 +1,8 @@
 -- `words::link_word_in` meets its contract: in each layout the leg's number is below that layout's last.
-use Prim.Native.Nat.{ℕ, ◌≤◌}
+use Prim.Native.Nat.{◌≤◌}
 use mathlib.Core.Path.{◌∙◌, sym, ap, subst}
 use native.Mathlib.Omega.{arith}
-use Rattle.words.specs.declared.LegLayout.{LegLayout}
 use Rattle.words.specs.Words.{last_leg_in, link_word_in}
-use borrow.Author.Rules.{rules}
 use Rattle.words.proofs.link_word_in.Goals as goal
 
 pub overflow_mul-result-in-ThreeWords : goal.overflow_mul-result-in-ThreeWords

@@ -1,11 +1,9 @@
 -- `words::occurs_from` meets its contract: what is asked of all numbers is asked of those not yet passed.
-use mathlib.Core.Path.{◌≡◌, refl, sym, ◌∙◌}
-use Prim.Native.Nat.{◌-◌, ◌≤◌}
+use mathlib.Core.Path.{refl, sym, ◌∙◌}
+use Prim.Native.Nat.{◌≤◌}
 use native.Mathlib.Omega.{arith}
-use lib.ListN.{length, take, drop}
-use Rattle.words.specs.Tests.{occurs}
+use lib.ListN.{length}
 use Rattle.words.proofs.Numbers.{occurs_here, occurs_later, none_occurs}
-use borrow.Author.Rules.{rules}
 use Rattle.words.proofs.occurs_from.Goals as goal
 
 pub loop-k-init : goal.loop-k-init

@@ -1,9 +1,7 @@
-use mathlib.Core.Path.{◌≡◌, refl, sym, ◌∙◌}
-use Prim.Native.Nat.{◌-◌, ◌≤◌}
-use native.Mathlib.Omega.{arith}
-use lib.ListN.{length, take, drop}
+use mathlib.Core.Path.{◌≡◌}
+use Prim.Native.Nat.{◌-◌}
+use lib.ListN.{take, drop}
 use Rattle.words.specs.Tests.{occurs}
-use Rattle.words.proofs.Numbers.{occurs_here, occurs_later, none_occurs}
 use Rattle.words.proofs.occurs_from.Given as goal
 
 abbrev pub invariant-loop-k : goal.invariant-loop-k

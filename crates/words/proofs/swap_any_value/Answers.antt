@@ -3,7 +3,6 @@ use borrow.Author.Tests.{not-true, not-false}
 use mathlib.Core.Path.{refl, sym, ◌∙◌}
 use Rattle.words.specs.Words.{read_of}
 use Rattle.words.proofs.AnyValue.{value_expected, mark_unexpected}
-use borrow.Author.Rules.{rules}
 use Rattle.words.proofs.swap_any_value.Goals as goal
 
 pub returns-then-not-is_held : goal.returns-then-not-is_held

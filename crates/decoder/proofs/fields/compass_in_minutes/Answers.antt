@@ -5,7 +5,6 @@ use Rattle.legs.specs.Minutes.{hundredths_of}
 use Rattle.frames.specs.declared.Field.TheVariants as Field
 use Rattle.frames.specs.Numbers.{number16}
 use Rattle.decoder.proofs.Answered.{field_out, bounded_in, compass_degrees_out, compass_minutes_out, compass_angle_in}
-use borrow.Author.Rules.{rules}
 use Rattle.decoder.proofs.fields.compass_in_minutes.Goals as goal
 
 pub returns-in_default : goal.returns-in_default

@@ -1,7 +1,6 @@
 -- `decoder::fields::distance_field` meets its contract: both ends are tested.
 use Rattle.legs.specs.Legs.{longest_distance}
 use Rattle.frames.proofs.Ranges.{within_in, within_below, within_above}
-use borrow.Author.Rules.{rules}
 use Rattle.decoder.proofs.fields.distance_field.Goals as goal
 
 pub returns-then-distance-lt1 : goal.returns-then-distance-lt1

@@ -1,6 +1,5 @@
 -- `decoder::fields::field_from_one` meets its contract: both ends are tested.
 use Rattle.frames.proofs.Ranges.{within_in, within_below, within_above}
-use borrow.Author.Rules.{rules}
 use Rattle.decoder.proofs.fields.field_from_one.Goals as goal
 
 pub returns-then-value-lt1 : goal.returns-then-value-lt1

@@ -1,6 +1,5 @@
 -- `decoder::fields::field_up_to` meets its contract: the test is the definition's.
 use borrow.Author.Tests.{le-leb, lt-leb}
-use borrow.Author.Rules.{rules}
 use Rattle.decoder.proofs.fields.field_up_to.Goals as goal
 
 pub returns-then-most-value : goal.returns-then-most-value

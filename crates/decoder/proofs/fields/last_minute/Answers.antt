@@ -1,7 +1,6 @@
 -- `decoder::fields::last_minute` meets its contract: none at 90 degrees.
 use borrow.Author.Tests.{eq-eqb, ne_eqb}
 use Rattle.decoder.proofs.Answered.{chosen, not_chosen}
-use borrow.Author.Rules.{rules}
 use Rattle.decoder.proofs.fields.last_minute.Goals as goal
 
 pub returns-then-degrees-eq-STEEPEST : goal.returns-then-degrees-eq-STEEPEST

@@ -7,7 +7,6 @@ use Rattle.legs.proofs.Clino.{kept16}
 use Rattle.frames.specs.declared.MeasureField.TheVariants as MeasureField
 use Rattle.frames.specs.Requests.{measure_at}
 use Rattle.decoder.proofs.Answered.{chosen, not_chosen, long_field_out, long_field_in, field_out, field_in, clino_field_out, clino_field_in, no_measure_distance, no_measure_compass, no_measure_clino, all_measure}
-use borrow.Author.Rules.{rules}
 use Rattle.decoder.proofs.fields.measure_field.Goals as goal
 
 pub returns-in_default : goal.returns-in_default

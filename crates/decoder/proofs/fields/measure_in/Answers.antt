@@ -1,11 +1,10 @@
 -- `decoder::fields::measure_in` meets its contract: M in minutes is read by the one, in hundredths by the other.
-use Prim.Native.Nat.{ℕ, ◌+◌, ◌≤◌}
+use Prim.Native.Nat.{◌+◌, ◌≤◌}
 use mathlib.Core.Path.{sym, ap, subst, ◌∙◌}
 use mathlib.Core.Bool.{Bool}
 use native.Mathlib.Omega.{arith}
 use lib.ListN.{length}
 use Rattle.frames.specs.Fields.{measure_size, measure_field_at}
-use borrow.Author.Rules.{rules}
 use Rattle.decoder.proofs.fields.measure_in.Goals as goal
 
 pub minutes_field-requires : goal.minutes_field-requires

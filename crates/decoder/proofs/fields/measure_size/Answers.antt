@@ -1,6 +1,5 @@
 -- `decoder::fields::measure_size` meets its contract: one of two sizes.
 use Rattle.decoder.proofs.Answered.{chosen, not_chosen}
-use borrow.Author.Rules.{rules}
 use Rattle.decoder.proofs.fields.measure_size.Goals as goal
 
 pub returns-then-minutes : goal.returns-then-minutes

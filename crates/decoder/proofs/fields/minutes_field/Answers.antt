@@ -9,7 +9,6 @@ use Rattle.legs.specs.Minutes.{compass_angle_in_range, clino_angle_in_range, rou
 use Rattle.frames.specs.declared.MeasureField.TheVariants as MeasureField
 use Rattle.frames.specs.Requests.{minutes_at}
 use Rattle.decoder.proofs.Answered.{long_field_out, long_field_in, field_out, field_in, signed_out, signed_in, no_measure_distance, minutes_out, no_compass_angle, no_clino_angle, minutes_in}
-use borrow.Author.Rules.{rules}
 use Rattle.decoder.proofs.fields.minutes_field.Goals as goal
 
 pub returns-in_default : goal.returns-in_default

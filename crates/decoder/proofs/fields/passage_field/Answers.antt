@@ -4,7 +4,6 @@ use mathlib.Core.Bool.{Bool}
 use Rattle.frames.specs.Numbers.{number16}
 use Rattle.frames.specs.Fields.{field_of}
 use Rattle.frames.proofs.Ranges.{up_to_below}
-use borrow.Author.Rules.{rules}
 use Rattle.decoder.proofs.fields.passage_field.Goals as goal
 
 pub returns : goal.returns

@@ -1,5 +1,4 @@
 -- `decoder::fields::stations_at` meets its contract: the two numbers read are the fields.
-use borrow.Author.Rules.{rules}
 use Rattle.decoder.proofs.fields.stations_at.Goals as goal
 
 pub returns : goal.returns

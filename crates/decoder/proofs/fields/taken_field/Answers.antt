@@ -5,7 +5,6 @@ use Rattle.frames.specs.declared.TakenField.TheVariants as TakenField
 use Rattle.frames.specs.Requests.{taken_at}
 use Rattle.frames.specs.Fields.{taken_in_range}
 use Rattle.decoder.proofs.Answered.{chosen, not_chosen, field_out, field_in, no_taken, fits_taken}
-use borrow.Author.Rules.{rules}
 use Rattle.decoder.proofs.fields.taken_field.Goals as goal
 
 pub returns-in_default : goal.returns-in_default

@@ -1,7 +1,6 @@
 -- `frames::head::fits_view` meets its contract: a view's length is bounded and even.
 use mathlib.Core.Path.{sym}
 use Rattle.frames.proofs.Headers.{view_short, view_long, view_even}
-use borrow.Author.Rules.{rules}
 use Rattle.frames.proofs.head.fits_view.Goals as goal
 
 pub returns-then-count : goal.returns-then-count

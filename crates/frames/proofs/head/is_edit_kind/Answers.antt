@@ -1,6 +1,5 @@
 -- `frames::head::is_edit_kind` meets its contract: each arm is a row of the table.
 use borrow.Author.Tests.{ne_eqb}
-use borrow.Author.Rules.{rules}
 use Rattle.frames.proofs.head.is_edit_kind.Goals as goal
 
 pub returns-in-1 : goal.returns-in-1

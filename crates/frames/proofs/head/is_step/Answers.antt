@@ -11,7 +11,6 @@ use Rattle.words.proofs.Tests.{next_test, failed_test, last_test}
 use Rattle.frames.specs.Numbers.{Bytes, number32}
 use Rattle.frames.specs.Requests.{length_field, kind_field, step_kind, length_of_kind}
 use Rattle.frames.specs.Fields.{is_step}
-use borrow.Author.Rules.{rules}
 use Rattle.frames.proofs.head.is_step.Goals as goal
 
 -- Of six bytes: the number is a step's head where both fields are.

@@ -1,7 +1,6 @@
 -- `frames::head::read_header` meets its contract: the tests are made in the order of the refusals.
 use mathlib.Core.Path.{sym, ◌∙◌}
 use Rattle.frames.proofs.Headers.{too_short, too_long, other_count_lem, header_torn, Untorn, header_due, header_view, header_no_view, header_other, header_no_kind, step_header}
-use borrow.Author.Rules.{rules}
 use Rattle.frames.proofs.head.read_header.Goals as goal
 use Rattle.frames.proofs.head.read_header.Goals.{After-read16-kind}
 

@@ -1,6 +1,5 @@
 -- `frames::numbers::put32` meets its contract: the two halves have the four bytes.
 use Rattle.frames.proofs.Put.{halves32}
-use borrow.Author.Rules.{rules}
 use Rattle.frames.proofs.numbers.put32.Goals as goal
 
 pub returns : goal.returns

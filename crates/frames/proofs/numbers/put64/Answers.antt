@@ -1,6 +1,5 @@
 -- `frames::numbers::put64` meets its contract: the two halves have the eight bytes.
 use Rattle.frames.proofs.Put.{halves64}
-use borrow.Author.Rules.{rules}
 use Rattle.frames.proofs.numbers.put64.Goals as goal
 
 pub returns : goal.returns

@@ -7,7 +7,6 @@ use lib.IntN.{negsuc}
 use mir.Facts.{to_z-of_z}
 use mir.Syntax.{w16, w32}
 use Rattle.frames.proofs.Bytes.{below, kept}
-use borrow.Author.Rules.{rules}
 use Rattle.frames.proofs.numbers.signed.Goals as goal
 
 pub overflow_sub-result : goal.overflow_sub-result

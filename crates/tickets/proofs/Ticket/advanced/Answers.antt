@@ -1,5 +1,4 @@
 -- `tickets::Ticket::advanced` meets its contract: one more try, and these counts.
-use borrow.Author.Rules.{rules}
 use Rattle.tickets.proofs.Ticket.advanced.Goals as goal
 
 pub returns : goal.returns

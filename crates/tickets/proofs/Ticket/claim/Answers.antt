@@ -2,7 +2,6 @@
 use mathlib.Core.Path.{ap, ◌∙◌}
 use Rattle.tickets.specs.Table.{gathered}
 use Rattle.tickets.proofs.Gathering.{gathered_claimed}
-use borrow.Author.Rules.{rules}
 use Rattle.tickets.proofs.Ticket.claim.Goals as goal
 
 pub returns : goal.returns

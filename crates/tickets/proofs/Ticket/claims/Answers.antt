@@ -1,7 +1,5 @@
 -- `tickets::Ticket::claims` meets its contract: nothing done, and not all claimed.
-use mathlib.Core.Path.{sym, ap}
 use borrow.Author.Tests.{eq-eqb, ne_eqb}
-use borrow.Author.Rules.{rules}
 use Rattle.tickets.proofs.Ticket.claims.Goals as goal
 
 pub returns-then-self-eq0 : goal.returns-then-self-eq0

@@ -2,7 +2,6 @@
 use mathlib.Core.Path.{ap, ◌∙◌}
 use Rattle.tickets.specs.Table.{tried_slot, gathered}
 use Rattle.tickets.proofs.Gathering.{gathered_given}
-use borrow.Author.Rules.{rules}
 use Rattle.tickets.proofs.Ticket.give_back.Goals as goal
 
 pub returns : goal.returns

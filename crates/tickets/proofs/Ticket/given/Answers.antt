@@ -1,6 +1,5 @@
 -- `tickets::Ticket::given` meets its contract: the last is told apart by the same test as in the definition.
 use borrow.Author.Tests.{eq-eqb, ne_eqb}
-use borrow.Author.Rules.{rules}
 use Rattle.tickets.proofs.Ticket.given.Goals as goal
 
 pub returns-then-more-self : goal.returns-then-more-self

@@ -3,7 +3,6 @@ use mathlib.Core.Path.{sym, ap, ◌∙◌}
 use mathlib.Core.Bool.{cond}
 use Rattle.tickets.specs.declared.Phase.TheVariants.{NoTicket}
 use Rattle.tickets.specs.Table.{claims_in, phase_by}
-use borrow.Author.Rules.{rules}
 use Rattle.tickets.proofs.Ticket.phase.Goals as goal
 
 pub returns-then-stands : goal.returns-then-stands

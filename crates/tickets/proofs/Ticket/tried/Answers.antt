@@ -1,6 +1,5 @@
 -- `tickets::Ticket::tried` meets its contract: one more try, up to the stop.
 use borrow.Author.Tests.{lt-ltb, le-ltb}
-use borrow.Author.Rules.{rules}
 use Rattle.tickets.proofs.Ticket.tried.Goals as goal
 
 pub returns-then-tries-lt-MOST_TRIES : goal.returns-then-tries-lt-MOST_TRIES

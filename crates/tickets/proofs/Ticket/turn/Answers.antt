@@ -1,6 +1,5 @@
 -- `tickets::Ticket::turn` meets its contract: one more try, and nothing done of what is given back.
 use Rattle.tickets.specs.declared.Kind.TheVariants.{Stale}
-use borrow.Author.Rules.{rules}
 use Rattle.tickets.proofs.Ticket.turn.Goals as goal
 
 pub returns : goal.returns

@@ -1,10 +1,9 @@
 -- `tickets::Tickets::fresh` meets its contract: sixteen empty slots say no ticket.
-use mathlib.Core.Path.{refl, ap, ◌∙◌}
+use mathlib.Core.Path.{ap, ◌∙◌}
 use lib.ListN.{replicate}
 use Rattle.words.specs.Words.{team_count}
 use Rattle.tickets.specs.Table.{table_of}
 use Rattle.tickets.proofs.Tables.{fresh_table}
-use borrow.Author.Rules.{rules}
 use Rattle.tickets.proofs.Tickets.fresh.Goals as goal
 
 pub returns : goal.returns

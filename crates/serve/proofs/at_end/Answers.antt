@@ -1,0 +1,14 @@
+-- `serve::at_end` meets its contract: Refused 3 where bytes are kept, and else nothing.
+use native.Mathlib.Omega.{arith}
+use Rattle.serve.proofs.Serving.{ends_torn, ends_whole}
+use borrow.Author.Rules.{rules}
+use Rattle.serve.proofs.at_end.Goals as goal
+
+pub returns-then-have-gt0 : goal.returns-then-have-gt0
+returns-then-have-gt0 c =
+    let args = c.args in
+    let put = c.put_torn.ensures in
+    (ends_torn args.out.now args.have c.if-have-gt0.true put, put.0.1)
+
+pub returns : goal.returns
+returns c = let args = c.args in (ends_whole args.out.now args.have c.if-have-gt0.false, omega arith)

@@ -1,0 +1,13 @@
+use native.Mathlib.Omega.{arith}
+use mathlib.Core.Path.{◌≡◌, refl, sym, ap, ◌∙◌}
+use Prim.Native.Nat.{ℕ, ◌+◌, ◌-◌, ◌<◌, ◌≤◌}
+use lib.ListN.{length, get_or, set, length-set}
+use Rattle.frames.specs.Numbers.{Bytes}
+use Rattle.serve.proofs.Moving.{moved, moved_turn}
+use Rattle.serve.proofs.shift.Given as goal
+
+abbrev pub invariant-loop-k : goal.invariant-loop-k
+invariant-loop-k l = (l.from + l.count ≡ l.have) × (length l.buffer ≡ length l.initial.buffer) × (l.k ≤ l.count) × (l.buffer ≡ moved l.initial.buffer l.from l.k)
+
+abbrev pub decreases-loop-k : goal.decreases-loop-k
+decreases-loop-k l = l.count - l.k

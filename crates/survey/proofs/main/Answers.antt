@@ -1,0 +1,31 @@
+-- `survey::main` meets its contract: the buffers that it makes have room for every answer.
+use native.Mathlib.Omega.{arith}
+use Prim.Native.Nat.{ℕ, ◌≤◌}
+use mathlib.Core.Path.{◌≡◌, refl, sym, subst}
+use mathlib.Core.Bool.{true}
+use borrow.Author.Tests.{leb-true}
+use lib.Dec.{leb}
+use lib.ListN.{length-replicate}
+use Rattle.legs.specs.Positions.{Accepted}
+use Rattle.legs.proofs.Ranks.{fixed_ranks_are_permutation}
+use Rattle.frames.specs.Fields.{longest_frame}
+use Rattle.calls.specs.Stream.{room_for}
+use borrow.Author.Rules.{rules}
+use Rattle.survey.proofs.main.Goals as goal
+
+-- Room in buffers, of the lengths `long` and `wide`, by the sizes that they are made with.
+holds_a_frame : {input long : ℕ} → input ≡ long → leb longest_frame input ≡ true → longest_frame ≤ long
+holds_a_frame {input} {long} size test = omega (arith, size, leb-true longest_frame input test)
+
+holds_answers : {input output long wide : ℕ} → input ≡ long → output ≡ wide → leb (room_for input) output ≡ true → room_for long ≤ wide
+holds_answers {input} {output} {long} {wide} size room test = omega (arith, size, room, leb-true (room_for input) output test)
+
+-- The output by the law: a search would count its bytes one by one.
+pub slice_bounds-serve_all-end-4 : goal.slice_bounds-serve_all-end-4
+slice_bounds-serve_all-end-4 c = sym (length-replicate {A = ℕ} _ 0)
+
+pub serve_all-requires : goal.serve_all-requires
+serve_all-requires c =
+    let input = slice-aggregate-serve-all-3 c in
+    let ranked = subst Accepted (sym c.fixed_ranks-ranks.ensures) fixed_ranks_are_permutation in
+    (holds_a_frame input refl, sym (slice-aggregate-serve-all c), ranked, holds_answers input (slice-aggregate-serve-all-4 c) refl)
