@@ -1,12 +1,11 @@
 -- A single frame answered, by the way that it goes: a step, or any other frame.
 use native.Mathlib.Omega.{arith}
-use Prim.Native.Nat.{ℕ, ◌-◌, ◌≤◌, ◌<◌}
+use Prim.Native.Nat.{ℕ, ◌-◌, ◌≤◌}
 use native.Mathlib.Nat.{zero-add}
-use mathlib.Core.Path.{◌≡◌, refl, sym, ap, subst, ◌∙◌}
-use mathlib.Core.Bool.{Bool, true, false, false≢true}
+use mathlib.Core.Path.{◌≡◌, sym, ap, subst, ◌∙◌}
+use mathlib.Core.Bool.{true, false, false≢true}
 use mathlib.Core.List.{List, ◌++◌, append-nil}
 use borrow.Author.Tests.{eqb-true}
-use lib.Dec.{eqb}
 use lib.ListN.{length, get_or, take, drop, set}
 use lib.Seq.{take-length, drop-length}
 use Rattle.words.specs.Words.{Words, words_in_book}
@@ -18,9 +17,8 @@ use Rattle.tickets.specs.Table.{no_slot, gathered, table_with, table_of, Elsewhe
 use Rattle.tickets.proofs.Tables.{slot_gathered}
 use Rattle.frames.specs.Numbers.{Bytes}
 use Rattle.frames.specs.Requests.{step_kind}
-use Rattle.frames.specs.Answers.{answer_frame, longest_answer, written, room_in, with_room, PutAt}
+use Rattle.frames.specs.Answers.{answer_frame, longest_answer, written, room_in, PutAt}
 use Rattle.calls.specs.declared.Aim.{Aim}
-use Rattle.calls.specs.declared.Aim.TheVariants as Aim
 use Rattle.calls.specs.Call.{Reply, call_of}
 use Rattle.calls.specs.Way.{Settled, aim_of, slot_of, settled_by}
 use Rattle.calls.proofs.Sending.{call_by}

@@ -17,14 +17,13 @@ use Rattle.tickets.specs.declared.Ticket as Slot
 use Rattle.tickets.specs.declared.Tickets as Table
 use Rattle.tickets.specs.Tickets.{Ticket, has_ticket, well_made, SlotWellMade}
 use Rattle.tickets.specs.Steps.{Stepped, step_of}
-use Rattle.tickets.specs.Table.{no_slot, stands_in, gathered, table_with, table_of, slot_of, ElsewhereSame}
+use Rattle.tickets.specs.Table.{no_slot, gathered, table_with, table_of, slot_of, ElsewhereSame}
 use Rattle.tickets.proofs.Gathering.{gathered_has}
 use Rattle.frames.specs.declared.Answer.TheVariants as Answer
 use Rattle.frames.specs.Numbers.{Bytes}
 use Rattle.frames.specs.Requests.{step_kind}
 use Rattle.frames.specs.Answers.{answer_frame, longest_answer, PutAt}
 use Rattle.calls.specs.declared.Aim.{Aim}
-use Rattle.calls.specs.declared.Aim.TheVariants as Aim
 use Rattle.calls.specs.Way.{Settled, AimKnown, aim_of, settled_by}
 use Rattle.calls.specs.Way as way
 use Rattle.calls.specs.declared.Stop.{Stop}
@@ -34,12 +33,11 @@ use Rattle.calls.specs.declared.Next.TheVariants.{Frame, End}
 use Rattle.calls.specs.Stream.{next_at, stopped_or, streamed, stream_from}
 use Rattle.calls.proofs.Streaming.{stops, full}
 use Rattle.dispatch.specs.declared.Ahead.{Ahead}
-use Rattle.dispatch.specs.declared.Ahead.TheVariants as Ahead
 use Rattle.dispatch.specs.Ahead.{frame_at, ahead_by, ahead_of}
 use Rattle.replies.specs.Leaving.{LeftBy}
 use Rattle.quick.specs.declared.Tried.{Tried}
 use Rattle.quick.proofs.Advancing.{quick_by_count, quick_kept, quick_says, quick_is_step, quick_missed}
-use Rattle.quick.specs.Quick.{Quick, is_plain, quick_if, quick_swaps, quick_tried, claims_quick, advanced_by, told_answer, TriedSays}
+use Rattle.quick.specs.Quick.{Quick, is_plain, quick_if, quick_swaps, quick_tried, advanced_by, told_answer, TriedSays}
 use Rattle.handlers.specs.declared.Opened.{Opened}
 use Rattle.handlers.specs.Settling.{step_by, NoStep, SettledAs, StepLeft, slot_after, OpenedAs}
 use Rattle.handlers.proofs.Cases.{step_by_lem, steps_made, no_word}

@@ -1,12 +1,10 @@
 -- The gathered table after a slot and its targets are stored anew: another ticket for its team, and no other changes.
-use Prim.Native.Nat.{ℕ, zero, suc, ◌+◌, ◌≤◌, ◌<◌}
+use Prim.Native.Nat.{ℕ, zero, suc, ◌+◌, ◌<◌}
 use mathlib.Core.Path.{◌≡◌, refl, sym, ap, subst, ◌∙◌}
 use mathlib.Core.List.{List, [], ◌∷◌}
-use mathlib.Core.Logic.{◌≢◌}
 use native.Mathlib.Omega.{arith}
 use lib.ListN.{set}
 use Rattle.tickets.specs.declared.Ticket as Slot
-use Rattle.tickets.specs.declared.Tickets as Table
 use Rattle.tickets.specs.Tickets.{Ticket, with_ticket}
 use Rattle.tickets.specs.Table.{gathered, gathered_from, table_with, table_of, ElsewhereSame}
 use Rattle.tickets.proofs.Tables.{others_stay, slot_stored}

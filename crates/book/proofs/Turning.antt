@@ -2,7 +2,7 @@
 use native.Mathlib.Omega.{arith}
 use Prim.Native.Nat.{ℕ, zero, suc, ◌+◌, ◌-◌, ◌<◌, ◌≤◌}
 use mathlib.Core.Path.{◌≡◌, refl, sym, ap, subst, ◌∙◌}
-use mathlib.Core.Bool.{Bool, true, false}
+use mathlib.Core.Bool.{Bool, true}
 use mathlib.Core.List.{List}
 use borrow.Author.Tests.{lt-ltb}
 use lib.ListN.{length, set, take, drop}
@@ -16,7 +16,7 @@ use Rattle.tickets.proofs.Tables.{slot_gathered}
 use Rattle.tickets.proofs.MadeTables.{with_well_made}
 use Rattle.frames.specs.Numbers.{Bytes, are_bytes}
 use Rattle.frames.proofs.Bytes.{bytes_after}
-use Rattle.frames.specs.Answers.{answer_frame, longest_answer, written, room_in, with_room, PutAt}
+use Rattle.frames.specs.Answers.{answer_frame, PutAt}
 use Rattle.calls.specs.declared.Aim.{Aim}
 use Rattle.calls.specs.declared.Stop.TheVariants.{MoreInput}
 use Rattle.calls.specs.declared.Next.TheVariants.{End}

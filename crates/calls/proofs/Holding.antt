@@ -17,7 +17,6 @@ use Rattle.tickets.proofs.Putting.{all_put, all_put_lem}
 use Rattle.tickets.proofs.Stepping.{step_keeps}
 use Rattle.frames.specs.Request.{Step}
 use Rattle.frames.specs.declared.Answer.{Answer}
-use Rattle.frames.specs.declared.Answer.TheVariants as Answer
 use Rattle.frames.specs.Numbers.{Bytes, are_bytes}
 use Rattle.frames.specs.Requests.{request_in}
 use Rattle.plain.specs.Plain.{word_of}

@@ -15,7 +15,6 @@ use Rattle.legs.specs.Positions.{Ranks, all_occur_below, is_permutation, Accepte
 use Rattle.legs.proofs.Ranks.{each}
 use Rattle.tickets.specs.Tickets.{Tickets, ticket_of, has_ticket, stands_below}
 use Rattle.calls.specs.declared.Outcome.{Outcome}
-use Rattle.calls.specs.declared.Outcome.TheVariants as Outcome
 use Rattle.calls.specs.Call.{book_length_wrong, ranks_wrong}
 use Rattle.calls.specs.Outcomes.{number_of, ticket_stands}
 use Rattle.calls.specs.Loading.{load_checks, load_refusal, loaded_by, load_of, EachOccurs, AcceptedExactly}

@@ -9,7 +9,6 @@ use Rattle.words.specs.Tests.{some_holds}
 use Rattle.legs.specs.Positions.{Ranks}
 use Rattle.tickets.specs.Tickets.{Tickets}
 use Rattle.edits.specs.declared.Edit.{Edit}
-use Rattle.edits.specs.declared.Edit.TheVariants as Edit
 use Rattle.frames.specs.declared.Answer.{Answer}
 use Rattle.frames.specs.declared.Header.TheVariants.{Kind}
 use Rattle.frames.specs.Request.{Open}

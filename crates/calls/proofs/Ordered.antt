@@ -23,7 +23,7 @@ use Rattle.plain.proofs.EditLaws.{edits_keep_rules, counts_add_up}
 use Rattle.plain.proofs.AnyOrder.{law_in_any_order}
 use Rattle.calls.specs.Order.{granted, stale, Event, decided, looked, seen, reserved, filled, came_back, finished, was_filled}
 use Rattle.calls.specs.Linearizable.{PlainState, kept_or, deed_of, play_from, plain_from, verdict_of, granted_in, granted_of, is_back, until_back, since_back}
-use Rattle.calls.proofs.Orders.{play_last, granted_last, RightAt, RightFrom, right_last, play_finished, granted_finished, right_finished, PlaceAt, place_grows, place_new, play_filled, granted_filled, right_filled, places_filled, IsKept, since_last, until_last, since_now, until_now, since_finished, until_finished, since_filled, until_filled, is_filling, shelves_last, filled_last, shelves_filled}
+use Rattle.calls.proofs.Orders.{play_last, granted_last, RightAt, RightFrom, right_last, play_finished, granted_finished, right_finished, PlaceAt, place_grows, place_new, play_filled, right_filled, places_filled, IsKept, since_last, until_last, since_now, until_now, since_finished, until_finished, since_filled, until_filled, is_filling, shelves_last, filled_last, shelves_filled}
 
 -- The plain book and its shelves after an order.
 abbrev pub played : PlainState → List Event → PlainState

@@ -1,11 +1,11 @@
 -- Ends and decisions that demand 3 forbids, written by hand: no list of answers is heard as one of them, so that nothing else would tell if they were allowed.
-use mathlib.Core.Path.{◌≡◌, sym, ap, subst}
+use mathlib.Core.Path.{sym, ap, subst}
 use mathlib.Core.Bool.{Bool, true, false, not, false≢true}
 use mathlib.Core.List.{List, [], ◌∷◌}
 use mathlib.Core.Logic.{inl, inr}
 use mathlib.Core.Option.{none, some}
 use Rattle.legs.specs.Positions.{fixed_ranks}
-use Rattle.calls.specs.Order.{Verdict, granted, stale, Asked, an_edit, a_view, Decision, Noted, noted, Last, was_granted, was_stale, was_seen, Ended, ended_by}
+use Rattle.calls.specs.Order.{Verdict, granted, stale, an_edit, a_view, Decision, Noted, noted, Last, was_granted, was_stale, was_seen, Ended, ended_by}
 use Rattle.calls.specs.Linearizable.{fresh_state, EndedRight, StandingRight, FoundFits}
 use Rattle.calls.specs.Bench.{that_measure, first_leg}
 

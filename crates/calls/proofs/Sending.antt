@@ -16,9 +16,7 @@ use Rattle.edits.specs.declared.Edit.{Edit}
 use Rattle.edits.specs.Ranges.{edit_in_range, edit_repeats}
 use Rattle.edits.specs.Views.{view_in_range, view_repeats}
 use Rattle.frames.specs.declared.Answer.{Answer}
-use Rattle.frames.specs.declared.Answer.TheVariants as Answer
 use Rattle.frames.specs.declared.Header.{Header}
-use Rattle.frames.specs.declared.Header.TheVariants as Header
 use Rattle.frames.specs.declared.EditRead.TheVariants as EditRead
 use Rattle.frames.specs.declared.Reading.TheVariants as Reading
 use Rattle.frames.specs.Numbers.{Bytes, number16}
@@ -27,7 +25,6 @@ use Rattle.frames.specs.Answers.{answer_frame, longest_answer, written}
 use Rattle.frames.specs.Fields.{header_of, edit_read, read_edit, read_as, view_read}
 use Rattle.frames.proofs.Headers.{refused_tests}
 use Rattle.calls.specs.declared.Aim.{Aim}
-use Rattle.calls.specs.declared.Aim.TheVariants as Aim
 use Rattle.calls.proofs.Refusing.{not_returned}
 use Rattle.calls.specs.Call.{Reply, refusal_checks, refusal_of, Done, done_of, number, bytes, sent_of, written_by, call_of}
 use Rattle.calls.specs.Way.{Settled, aim_by, aim_of, slot_of, settled_with, look_settled, open_settled, view_settled, step_settled, new_settled, team_settled, settled_by, way_done, way_of}

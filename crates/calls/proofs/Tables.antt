@@ -20,7 +20,6 @@ use Rattle.tickets.specs.Invariant.{TriesTold}
 use Rattle.tickets.proofs.Tables.{slot_gathered}
 use Rattle.tickets.proofs.Tries.{tries_counted}
 use Rattle.edits.specs.declared.Edit.{Edit}
-use Rattle.edits.specs.declared.Edit.TheVariants as Edit
 use Rattle.edits.specs.Opened.{target_count, opened_ticket}
 use Rattle.edits.specs.Ordering.{listed_count}
 use Rattle.edits.specs.Views.{opened_view}

@@ -28,7 +28,6 @@ use Rattle.frames.specs.Fields.{edit_read, read_edit, read_as, view_read, ViewFi
 use Rattle.frames.proofs.Asked.{edit_stations}
 use Rattle.frames.proofs.Bytes.{first_byte, bytes_after}
 use Rattle.calls.specs.declared.Aim.{Aim}
-use Rattle.calls.specs.declared.Aim.TheVariants as Aim
 use Rattle.calls.specs.Way.{Settled, AimKnown, settled_with, look_settled, open_settled, view_settled, step_settled, new_settled, team_settled, settled_by}
 use Rattle.calls.proofs.Refusing.{named_many, fine_view}
 

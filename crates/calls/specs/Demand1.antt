@@ -12,7 +12,6 @@ use Rattle.tickets.specs.Table.{table_of, slot_of}
 use Rattle.edits.specs.Opened.{target_count}
 use Rattle.frames.specs.Request.{Request, Open, Step, Look, View}
 use Rattle.frames.specs.declared.Answer.{Answer}
-use Rattle.frames.specs.declared.Answer.TheVariants as Answer
 use Rattle.frames.specs.Numbers.{Bytes}
 use Rattle.frames.specs.Requests.{head_bytes, request_in}
 use Rattle.frames.specs.Answers.{longest_answer}

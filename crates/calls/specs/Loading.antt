@@ -6,7 +6,6 @@ use Rattle.words.specs.Words.{Words, words_in_book, team_count, passage_count}
 use Rattle.legs.specs.Positions.{Ranks}
 use Rattle.tickets.specs.Tickets.{Tickets, ticket_of, has_ticket}
 use Rattle.calls.specs.declared.Outcome.{Outcome}
-use Rattle.calls.specs.declared.Outcome.TheVariants as Outcome
 use Rattle.calls.specs.Call.{Check, check, first_of, book_length_wrong, ranks_wrong}
 use Rattle.calls.specs.Outcomes.{outcome_of, ticket_stands}
 

@@ -3,7 +3,6 @@ use Rattle.std.specs.Prelude.{ℕ, zero, suc, ◌+◌, ◌≡◌, List, [], ◌�
 use Rattle.std.proofs.Math.Option.{Option, none, some}
 use Rattle.words.specs.Tests.{all_hold, some_holds, occurs}
 use Rattle.words.specs.Words.{team_count, shelf_count}
-use Rattle.tickets.specs.declared.Values.{Values}
 use Rattle.tickets.specs.declared.StepAnswer.{StepAnswer}
 use Rattle.tickets.specs.declared.StepAnswer.TheVariants.{Claimed, Waiting, Found, Put, Returned, Granted, Stale, Seen}
 use Rattle.tickets.specs.declared.LookAnswer.{LookAnswer}
@@ -16,7 +15,6 @@ use Rattle.edits.specs.Edits.{listed_targets}
 use Rattle.edits.specs.Opened.{ordered_by, target_count}
 use Rattle.frames.specs.Request.{Request, Open, Step, Look, View}
 use Rattle.frames.specs.declared.Answer.{Answer}
-use Rattle.frames.specs.declared.Answer.TheVariants as Answer
 use Rattle.frames.specs.Numbers.{Bytes}
 use Rattle.frames.specs.Requests.{request_in}
 use Rattle.frames.specs.Answers.{values_shown}

@@ -4,7 +4,6 @@ use Rattle.std.proofs.Math.Option.{Option, none, some}
 use Rattle.words.specs.Words.{team_count}
 use Rattle.tickets.specs.Tickets.{Tickets, stands_below}
 use Rattle.calls.specs.declared.Outcome.{Outcome}
-use Rattle.calls.specs.declared.Outcome.TheVariants as Outcome
 
 -- "A refused call without a frame returns its number"; one that is not refused returns none of these, here 0.
 abbrev pub outcome_of : Option ℕ → Outcome

@@ -8,20 +8,15 @@ use Rattle.edits.specs.declared.View.{View}
 use Rattle.edits.specs.Opened.{target_count, opened_ticket}
 use Rattle.edits.specs.Views.{words_named, opened_view}
 use Rattle.frames.specs.declared.Answer.{Answer}
-use Rattle.frames.specs.declared.Answer.TheVariants as Answer
 use Rattle.frames.specs.declared.Header.{Header}
-use Rattle.frames.specs.declared.Header.TheVariants as Header
 use Rattle.frames.specs.declared.EditRead.{EditRead}
-use Rattle.frames.specs.declared.EditRead.TheVariants as EditRead
 use Rattle.frames.specs.declared.Reading.{Reading}
-use Rattle.frames.specs.declared.Reading.TheVariants as Reading
 use Rattle.frames.specs.declared.ViewRead.{ViewRead}
 use Rattle.frames.specs.Numbers.{Bytes, number16}
 use Rattle.frames.specs.Requests.{part_after_kind, step_kind, look_kind, view_kind, length_of_kind, is_edit_kind, is_kind, team_in, view_words_in}
 use Rattle.frames.specs.Answers.{longest_answer}
 use Rattle.frames.specs.Fields.{header_of, read_edit, view_read, FieldsOf, Whole}
 use Rattle.calls.specs.declared.Aim.{Aim}
-use Rattle.calls.specs.declared.Aim.TheVariants as Aim
 use Rattle.calls.specs.Call.{Done, done, done_of}
 
 -- Where a frame goes: back, refused by 3 to 6; to a look; or to a team, with its kind.

@@ -8,12 +8,11 @@ use mathlib.Core.Logic.{◌↔◌, ◌⊎◌, inl, inr, ◌≢◌}
 use native.Mathlib.Omega.{arith}
 use native.Mathlib.Decide.{ℕ_discrete}
 use lib.ListN.{length}
-use borrow.Author.Tests.{eq-eqb, ne_eqb, eqb-true, not-true, not-false}
+use borrow.Author.Tests.{eq-eqb, ne_eqb, not-true, not-false}
 use Rattle.words.specs.Tests.{some_holds}
 use Rattle.words.specs.declared.LegLayout.TheVariants.{ThreeWords, FourWords}
 use Rattle.words.specs.Words.{Words, words_in_book}
 use Rattle.tickets.specs.Tickets.{Tickets}
-use Rattle.plain.specs.Plain.{Plain, SoundIn}
 use Rattle.calls.specs.declared.Outcome.{Outcome}
 use Rattle.calls.specs.declared.Outcome.TheVariants.{Done, Refused}
 use Rattle.calls.specs.Call.{check, first_of, book_length_wrong}
@@ -23,7 +22,7 @@ use Rattle.soundness.specs.InWords.{plain_in}
 use Rattle.soundness.specs.Soundness.{WordsOf, OfSomePlainBook}
 use Rattle.soundness.proofs.Soundness.{sound_exactly}
 use Rattle.soundness.proofs.Telling.{words_tell_lists}
-use Rattle.carrying.specs.Carrying.{either_length_wrong, leg_above, carry_checks, carry_refusal, carried, carried_by, carry_of, BothWhole, Ready, OfBookWith, CarryAnswered, CarryAnswers, DoneCarriesTheLists}
+use Rattle.carrying.specs.Carrying.{either_length_wrong, leg_above, carry_checks, carry_refusal, carried, carried_by, carry_of, BothWhole, OfBookWith, CarryAnswered, CarryAnswers, DoneCarriesTheLists}
 use Rattle.carrying.proofs.Carrying.{carries_the_lists}
 
 -- The answer of four tests; which tests made it, by its number.

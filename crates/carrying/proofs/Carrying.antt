@@ -1,18 +1,18 @@
 -- What is carried over is the four-word layout of the same lists.
-use Prim.Native.Nat.{ℕ, zero, suc, ◌+◌, ◌≤◌, ◌<◌}
-use mathlib.Core.Path.{◌≡◌, refl, sym, ap, ◌∙◌}
+use Prim.Native.Nat.{ℕ, zero, suc, ◌+◌, ◌<◌}
+use mathlib.Core.Path.{◌≡◌, refl, ap, ◌∙◌}
 use mathlib.Core.List.{List, [], ◌∷◌}
 use mathlib.Core.Bool.{Bool, true, false, cond, true≢false}
 use native.Mathlib.Omega.{arith}
-use lib.Dec.{ltb, leb}
+use lib.Dec.{ltb}
 use lib.ListN.{length, get_or}
 use borrow.Author.Tests.{ltb-false}
 use Rattle.words.specs.declared.LegLayout.{LegLayout}
 use Rattle.words.specs.declared.LegLayout.TheVariants.{ThreeWords, FourWords}
-use Rattle.words.specs.Words.{Words, words_in_book, passage_count, last_leg, read_of}
+use Rattle.words.specs.Words.{Words, words_in_book, last_leg, read_of}
 use Rattle.plain.specs.Plain.{Plain, NumberedLeg, list_of, word_in, SoundIn, Sound}
 use Rattle.plain.proofs.OneList.{Every}
-use Rattle.plain.proofs.Slots.{InRangeIn, FairIn}
+use Rattle.plain.proofs.Slots.{InRangeIn}
 use Rattle.plain.proofs.Lists.{fair_of, sound_of}
 use Rattle.soundness.specs.Soundness.{WordsOf}
 use Rattle.carrying.specs.Carrying.{above_in, leg_above, words_from, laid_out, carried, CarriesTheLists, CarriesLaidOutBooks}

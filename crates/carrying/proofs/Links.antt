@@ -8,7 +8,7 @@ use native.Mathlib.Nat.{not-suc-le-zero}
 use native.Mathlib.Decide.{ℕ_discrete, dec_lt}
 use Rattle.words.specs.declared.LegLayout.TheVariants.{ThreeWords, FourWords}
 use Rattle.words.specs.Words.{passage_count, last_leg, link_word_in, newer_word}
-use Rattle.plain.specs.Plain.{Plain, NumberedLeg, list_of, newest_in, times_in, word_in, word_of, SoundIn, Sound}
+use Rattle.plain.specs.Plain.{Plain, NumberedLeg, list_of, times_in, word_in, word_of, SoundIn, Sound}
 use Rattle.plain.specs.Laws.{oldest_or}
 use Rattle.plain.proofs.Sums.{sum_below, sum_zero, sum_some}
 use Rattle.plain.proofs.OneList.{Every, times_there}

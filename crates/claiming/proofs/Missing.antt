@@ -5,7 +5,7 @@ use mathlib.Core.Path.{◌≡◌, refl, sym, ap, subst, ◌∙◌}
 use mathlib.Core.List.{List}
 use native.Mathlib.Omega.{arith}
 use lib.Dec.{eqb}
-use Rattle.words.specs.Words.{Words, is_held, holder_of}
+use Rattle.words.specs.Words.{is_held, holder_of}
 use Rattle.tickets.specs.declared.Kind.TheVariants.{Stale}
 use Rattle.tickets.specs.declared.Phase.TheVariants.{Claiming, GivingBack}
 use Rattle.tickets.specs.declared.StepAnswer.{StepAnswer}
@@ -14,7 +14,7 @@ use Rattle.tickets.specs.declared.Target.{Target}
 use Rattle.tickets.specs.declared.Ticket as Slot
 use Rattle.tickets.specs.Tickets.{Ticket, no_ticket, target_at}
 use Rattle.tickets.specs.Steps.{Stepped, one_more_try, advanced, stepped, waited, differed}
-use Rattle.tickets.specs.Table.{target_standing, no_slot, claims_in, tried_slot, phase_by, standing, gathered}
+use Rattle.tickets.specs.Table.{target_standing, no_slot, tried_slot, standing, gathered}
 use Rattle.tickets.proofs.Gathering.{gathered_gone, gathered_tried}
 use Rattle.frames.specs.Numbers.{Bytes}
 use Rattle.replies.specs.Leaving.{Answered, LeftBy}

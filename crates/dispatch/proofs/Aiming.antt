@@ -2,7 +2,6 @@
 use Prim.Native.Nat.{ℕ, ◌-◌, ◌≤◌, ◌<◌}
 use mathlib.Core.Path.{◌≡◌, refl, sym, subst}
 use mathlib.Core.Bool.{true, false}
-use mathlib.Core.List.{List, [], ◌∷◌}
 use native.Mathlib.Omega.{arith}
 use native.Mathlib.Decide.{ℕ_discrete}
 use borrow.Author.Tests.{eq-eqb, ne_eqb, lt-ltb, le-ltb, ltb-true}
@@ -16,7 +15,6 @@ use Rattle.frames.specs.Requests.{part_after_kind, look_kind, view_kind, kinds, 
 use Rattle.frames.specs.Fields.{Whole}
 use Rattle.frames.proofs.Headers.{each_row, kind_row, fields_of_kind, fields_of_view}
 use Rattle.calls.specs.declared.Aim.{Aim}
-use Rattle.calls.specs.declared.Aim.TheVariants as Aim
 use Rattle.calls.specs.Way.{aim_by, AimKnown, SlotKnown, slot_of}
 
 -- Where a whole frame goes.

@@ -2,36 +2,32 @@
 use Prim.Native.Nat.{ℕ, ◌+◌, ◌*◌, ◌-◌, ◌≤◌, ◌<◌}
 use mathlib.Core.Path.{◌≡◌, refl, sym, ap, subst, ◌∙◌}
 use mathlib.Core.Bool.{Bool, true, false, cond, not, false≢true}
-use mathlib.Core.List.{List, [], ◌∷◌}
+use mathlib.Core.List.{[], ◌∷◌}
 use native.Mathlib.Omega.{arith}
 use native.Mathlib.Decide.{ℕ_discrete, dec_lt}
 use borrow.Author.Tests.{eq-eqb, ne_eqb, lt-ltb, le-ltb, eqb-true, ltb-true, ltb-false, not-false}
 use lib.Dec.{eqb, ltb}
-use lib.ListN.{length, get_or, take, drop, length-take, length-drop}
+use lib.ListN.{length, get_or, drop, length-take, length-drop}
 use lib.Seq.{get_or-take, get_or-drop}
 use Rattle.words.specs.Tests.{some_holds}
 use Rattle.words.specs.Words.{team_count}
 use Rattle.words.proofs.Tests.{join}
 use Rattle.frames.specs.declared.Header.{Header}
-use Rattle.frames.specs.declared.Header.TheVariants as Header
 use Rattle.frames.specs.Numbers.{Bytes, number16, number32}
-use Rattle.frames.specs.Requests.{head_bytes, length_field, kind_field, part_after_kind, step_kind, look_kind, view_kind, length_of_kind, length_fits, team_in}
+use Rattle.frames.specs.Requests.{head_bytes, length_field, kind_field, part_after_kind, step_kind, look_kind, length_fits, team_in}
 use Rattle.frames.specs.Answers.{longest_answer}
 use Rattle.frames.specs.Fields.{longest_frame, frame_torn, kind_unknown, length_wrong, header_of, Whole}
-use Rattle.frames.proofs.Headers.{step_header, kind_tests, fields_of_kind}
+use Rattle.frames.proofs.Headers.{step_header, kind_tests}
 use Rattle.calls.specs.declared.Aim.{Aim}
-use Rattle.calls.specs.declared.Aim.TheVariants as Aim
 use Rattle.calls.specs.declared.Stop.{Stop}
 use Rattle.calls.specs.declared.Stop.TheVariants.{MoreInput, OutputFull, BadLength}
-use Rattle.calls.specs.declared.Next.{Next}
 use Rattle.calls.specs.declared.Next.TheVariants.{Frame, End}
 use Rattle.calls.specs.Way.{aim_by, aim_of, AimKnown}
 use Rattle.calls.specs.Survey.{longest_field}
-use Rattle.calls.specs.Stream.{next_at, NextInside, stopped_or}
+use Rattle.calls.specs.Stream.{next_at, stopped_or}
 use Rattle.calls.proofs.Streaming.{next_whole}
 use Rattle.dispatch.specs.declared.Ahead.{Ahead}
-use Rattle.dispatch.specs.declared.Ahead.TheVariants as Ahead
-use Rattle.dispatch.specs.Ahead.{step_bytes, step_head, step_at, frame_at, ahead_by, ahead_of, FrameAhead, AheadInside}
+use Rattle.dispatch.specs.Ahead.{step_bytes, step_head, step_at, frame_at, ahead_by, ahead_of, AheadInside}
 use Rattle.dispatch.proofs.Aiming.{aim_team}
 
 -- A field of the frame at a place is the field there of the input.

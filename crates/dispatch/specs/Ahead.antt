@@ -1,17 +1,15 @@
 -- What stands at a place of the input, as the stream goes by it: a step is told before all other frames.
-use Rattle.std.specs.Prelude.{ℕ, ◌+◌, ◌-◌, ◌≤◌, ◌<◌, ◌≡◌, Bool, false, cond, length, take, drop, eqb, ltb}
+use Rattle.std.specs.Prelude.{ℕ, ◌+◌, ◌-◌, ◌≤◌, ◌≡◌, Bool, false, cond, length, take, drop, eqb, ltb}
 use Rattle.words.specs.Words.{team_count}
 use Rattle.frames.specs.Numbers.{Bytes, number16, number32}
 use Rattle.frames.specs.Requests.{head_bytes, step_kind, length_of_kind}
 use Rattle.frames.specs.Answers.{longest_answer}
 use Rattle.calls.specs.declared.Next.TheVariants.{Frame}
 use Rattle.calls.specs.declared.Aim.{Aim}
-use Rattle.calls.specs.declared.Aim.TheVariants as Aim
 use Rattle.calls.specs.declared.Stop.TheVariants.{OutputFull}
 use Rattle.calls.specs.Way.{aim_of, AimKnown}
 use Rattle.calls.specs.Stream.{next_at, stopped_or}
 use Rattle.dispatch.specs.declared.Ahead.{Ahead}
-use Rattle.dispatch.specs.declared.Ahead.TheVariants as Ahead
 
 -- The bytes of a step's frame, and its first four as one number: its length, and its kind above it.
 abbrev pub step_bytes : ℕ

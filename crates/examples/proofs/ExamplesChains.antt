@@ -14,7 +14,6 @@ use Rattle.tickets.specs.Tickets.{fresh_tickets}
 use Rattle.edits.specs.declared.Edit.{Edit}
 use Rattle.edits.specs.declared.Edit.TheVariants.{Strike, Move}
 use Rattle.frames.specs.declared.Answer.{Answer}
-use Rattle.frames.specs.declared.Answer.TheVariants as Answer
 use Rattle.frames.specs.Request.{Request, Open, Step}
 use Rattle.plain.specs.Plain.{Plain, word_of}
 use Rattle.calls.specs.Run.{Heard}

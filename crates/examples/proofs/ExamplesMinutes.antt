@@ -5,13 +5,13 @@ use mathlib.Core.List.{List, [], ◌∷◌, ◌++◌, map}
 use mathlib.Core.Option.{Option, none, some}
 use lib.ListN.{replicate}
 use lib.IntN.{pos, negsuc}
-use Rattle.words.specs.Words.{Words, words_in_book}
+use Rattle.words.specs.Words.{words_in_book}
 use Rattle.legs.specs.declared.Measure.{Measure}
 use Rattle.legs.specs.Positions.{fixed_ranks}
 use Rattle.legs.specs.Minutes.{Minutes}
 use Rattle.tickets.specs.Tickets.{Tickets, fresh_tickets, with_ticket}
 use Rattle.edits.specs.Opened.{opened_ticket}
-use Rattle.frames.specs.Request.{Open, Step}
+use Rattle.frames.specs.Request.{Open}
 use Rattle.frames.specs.Numbers.{Bytes}
 use Rattle.frames.specs.Answers.{longest_answer}
 use Rattle.frames.specs.Writing.{request_frame}

@@ -12,7 +12,6 @@ use Rattle.tickets.specs.declared.LookAnswer.TheVariants.{Value, Held}
 use Rattle.tickets.specs.Tickets.{fresh_tickets, stands_below}
 use Rattle.frames.specs.Request.{Request, Open, Step, Look}
 use Rattle.frames.specs.declared.Answer.{Answer}
-use Rattle.frames.specs.declared.Answer.TheVariants as Answer
 use Rattle.frames.specs.Numbers.{Bytes}
 use Rattle.frames.specs.Writing.{request_frame}
 use Rattle.frames.specs.Answers.{answer_frame}

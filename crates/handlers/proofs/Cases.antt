@@ -1,14 +1,13 @@
 -- What a frame settles, case by case: each test of the code, and what the definitions of the way say there.
-use Prim.Native.Nat.{ℕ, ◌-◌, ◌≤◌, ◌<◌}
+use Prim.Native.Nat.{ℕ, ◌≤◌, ◌<◌}
 use mathlib.Core.Path.{◌≡◌, refl, sym, ap, subst, ◌∙◌}
 use mathlib.Core.Bool.{Bool, true, false, cond, not, false≢true}
 use mathlib.Core.List.{List, [], ◌∷◌}
-use native.Mathlib.Omega.{arith}
 use native.Mathlib.Decide.{ℕ_discrete}
-use borrow.Author.Tests.{eq-eqb, ne_eqb, lt-ltb, le-ltb, eqb-true}
-use lib.Dec.{eqb, ltb}
+use borrow.Author.Tests.{eq-eqb, ne_eqb, lt-ltb, le-ltb}
+use lib.Dec.{eqb}
 use lib.ListN.{length}
-use Rattle.words.specs.Tests.{all_hold, distinct}
+use Rattle.words.specs.Tests.{distinct}
 use Rattle.words.specs.Words.{Words, words_in_book, most_named}
 use Rattle.words.proofs.Tests.{split}
 use Rattle.legs.specs.Positions.{Ranks}
@@ -18,26 +17,22 @@ use Rattle.tickets.specs.Steps.{step_of, look_of}
 use Rattle.tickets.specs.Table.{stands_in, gathered, ElsewhereSame}
 use Rattle.tickets.proofs.Gathering.{gathered_has}
 use Rattle.edits.specs.declared.Edit.{Edit}
-use Rattle.edits.specs.declared.View.{View}
 use Rattle.edits.specs.Ranges.{edit_allowed}
 use Rattle.edits.specs.Opened.{target_count, opened_ticket}
 use Rattle.edits.specs.Views.{all_in_book, view_in_range, view_repeats, FineView, view_of, words_named, opened_view}
 use Rattle.edits.proofs.Views.{words_named_lem}
 use Rattle.frames.specs.declared.Answer.{Answer}
-use Rattle.frames.specs.declared.Answer.TheVariants as Answer
 use Rattle.frames.specs.declared.EditRead.{EditRead}
-use Rattle.frames.specs.declared.EditRead.TheVariants as EditRead
 use Rattle.frames.specs.declared.Reading.TheVariants as Reading
 use Rattle.frames.specs.declared.ViewRead.{ViewRead}
 use Rattle.frames.specs.Numbers.{Bytes, number16}
-use Rattle.frames.specs.Requests.{part_after_kind, step_kind, look_kind, view_kind, length_of_kind, is_edit_kind, edit_of_kind, angles_of_kind, view_words_in}
+use Rattle.frames.specs.Requests.{part_after_kind, step_kind, look_kind, view_kind, is_edit_kind, edit_of_kind, angles_of_kind, view_words_in}
 use Rattle.frames.specs.Answers.{answer_frame, PutAt}
 use Rattle.frames.specs.Fields.{read_if, read_edit, read_as, view_read, ViewFields, Whole}
 use Rattle.frames.proofs.Headers.{edit_kind_lem, other_kind, fields_of_kind, fields_of_view}
 use Rattle.decoder.proofs.Decoded.{only_allowed}
 use Rattle.calls.proofs.Refusing.{named_many}
 use Rattle.calls.specs.declared.Aim.{Aim}
-use Rattle.calls.specs.declared.Aim.TheVariants as Aim
 use Rattle.calls.specs.Way.{Settled, AimKnown, slot_of, settled_with, look_answer, open_settled, reading_settled, view_settled, step_settled, new_settled, EditFields, team_settled, look_settled, settled_by}
 use Rattle.replies.specs.Leaving.{LeftBy}
 use Rattle.handlers.specs.declared.Opened.{Opened}

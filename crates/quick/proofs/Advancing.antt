@@ -7,7 +7,7 @@ use mathlib.Core.Logic.{◌⊎◌, inl, inr}
 use native.Mathlib.Omega.{arith}
 use native.Mathlib.Decide.{dec_lt}
 use borrow.Author.Tests.{eqb-true, eqb-false, leb-true, ltb-true, ltb-false, eq-eqb, ne_eqb, le-leb, lt-leb}
-use lib.Dec.{eqb, ltb, leb}
+use lib.Dec.{eqb, leb}
 use Rattle.words.specs.Words.{Words, is_held, mark_of, swap_of}
 use Rattle.tickets.specs.declared.Kind.{Kind}
 use Rattle.tickets.specs.declared.Kind.TheVariants.{Edit, Stale, View}
@@ -16,9 +16,9 @@ use Rattle.tickets.specs.declared.Phase.TheVariants.{Claiming, Putting}
 use Rattle.tickets.specs.declared.StepAnswer.TheVariants as Answer
 use Rattle.tickets.specs.declared.SwapTried.{SwapTried}
 use Rattle.tickets.specs.declared.Ticket as Slot
-use Rattle.tickets.specs.Tickets.{Ticket, no_ticket, target_at, well_made}
+use Rattle.tickets.specs.Tickets.{Ticket, no_ticket, target_at}
 use Rattle.tickets.specs.Steps.{Stepped, stepped, one_more_try, advanced, claimed, put, swap_tried, settled, settled_in, step_of}
-use Rattle.tickets.specs.Table.{claims_in, phase_of, tried_slot, standing, gathered}
+use Rattle.tickets.specs.Table.{standing, gathered}
 use Rattle.tickets.proofs.Gathering.{gathered_claimed, gathered_put}
 use Rattle.tickets.proofs.Settled.{settled_claimed, settled_in_lem}
 use Rattle.replies.specs.Leaving.{LeftBy}
@@ -26,7 +26,7 @@ use Rattle.replies.proofs.Standing.{is_standing, standing_phase, target_fits_the
 use Rattle.claiming.specs.Missing.{missed_by}
 use Rattle.quick.specs.declared.Tried.{Tried}
 use Rattle.quick.specs.Quick.{Quick, is_plain, quick_if, quick_swaps, claims_quick, untried, quick_made, quick_tried, advanced_by, AdvancesBy, told_answer, QuickByCount, QuickKept, TriedSays, QuickSays, QuickIsStep, QuickMissed}
-use Rattle.quick.proofs.Swapping.{next_of, swap_by, claims_plain, phase_quick, next_below, swap_by_lem}
+use Rattle.quick.proofs.Swapping.{claims_plain, phase_quick, next_below, swap_by_lem}
 use Rattle.quick.proofs.Trying.{went_by, not_tried, is_tried}
 
 -- The test of an edit that claims wherever not all is claimed, both ways.

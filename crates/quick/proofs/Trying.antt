@@ -8,7 +8,6 @@ use lib.Dec.{eqb}
 use Rattle.words.specs.Words.{Words, is_held, swap_of}
 use Rattle.tickets.specs.declared.SwapTried.{SwapTried}
 use Rattle.tickets.specs.declared.Ticket as Slot
-use Rattle.tickets.specs.Tickets.{Ticket}
 use Rattle.tickets.specs.Steps.{swap_tried}
 use Rattle.tickets.specs.Table.{gathered}
 use Rattle.quick.specs.declared.Tried.{Tried}

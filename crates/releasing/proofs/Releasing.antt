@@ -5,24 +5,21 @@ use mathlib.Core.Bool.{Bool, true, false, cond}
 use mathlib.Core.List.{List}
 use native.Mathlib.Omega.{arith}
 use borrow.Author.Tests.{eq-eqb, ne_eqb, ltb-true, ltb-false}
-use lib.Dec.{eqb}
 use Rattle.words.specs.Words.{Words, mark_of, swap_of}
 use Rattle.tickets.specs.declared.Kind.TheVariants.{Edit}
-use Rattle.tickets.specs.declared.Phase.{Phase}
-use Rattle.tickets.specs.declared.Phase.TheVariants.{NoTicket, Claiming, Putting, GivingBack}
+use Rattle.tickets.specs.declared.Phase.TheVariants.{Putting, GivingBack}
 use Rattle.tickets.specs.declared.StepAnswer.{StepAnswer}
 use Rattle.tickets.specs.declared.StepAnswer.TheVariants as Answer
 use Rattle.tickets.specs.declared.Target.{Target}
 use Rattle.tickets.specs.declared.Ticket as Slot
 use Rattle.tickets.specs.Tickets.{Ticket, no_ticket, target_at}
-use Rattle.tickets.specs.Steps.{Stepped, one_more_try, tries, advanced, stepped, claimed, put, given_back, swap_tried_in, step_of}
-use Rattle.tickets.specs.Table.{target_standing, tried_slot, done_with_one, stands_in, claims_in, phase_of, standing, gathered}
-use Rattle.tickets.proofs.Gathering.{gathered_claimed, gathered_put, gathered_given}
-use Rattle.tickets.proofs.Settled.{settled_claimed}
+use Rattle.tickets.specs.Steps.{one_more_try, tries, advanced, stepped, put, given_back, step_of}
+use Rattle.tickets.specs.Table.{target_standing, tried_slot, done_with_one, stands_in, claims_in, standing, gathered}
+use Rattle.tickets.proofs.Gathering.{gathered_put, gathered_given}
 use Rattle.frames.specs.Numbers.{Bytes}
-use Rattle.replies.specs.Leaving.{Answered, StepsIn, StepsFrom, LeftBy}
+use Rattle.replies.specs.Leaving.{Answered, StepsFrom, LeftBy}
 use Rattle.replies.proofs.Standing.{phase_tells, given_more, given_last, is_standing, target_read, counts_there}
-use Rattle.replies.proofs.Stepping.{step_made, step_left}
+use Rattle.replies.proofs.Stepping.{step_left}
 
 module _ (words : Words) (targets : List ℕ) (team : ℕ) (slot : Slot.Ticket) (out : Bytes) (at : ℕ) (known : StepsFrom Putting words targets team slot out at) where
   -- What a put asks of the ticket.

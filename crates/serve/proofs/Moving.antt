@@ -1,10 +1,10 @@
 -- Bytes moved to the front one by one: a turn reads a byte that no turn before it has written.
-use Prim.Native.Nat.{ℕ, suc, ◌+◌, ◌-◌, ◌≤◌, ◌<◌}
+use Prim.Native.Nat.{ℕ, suc, ◌+◌, ◌-◌, ◌<◌}
 use native.Mathlib.Nat.{add_comm}
 use native.Mathlib.Numerals.{add-one}
 use native.Mathlib.Omega.{arith}
 use mathlib.Core.Path.{◌≡◌, sym, ap, ◌∙◌}
-use mathlib.Core.List.{[], ◌∷◌, ◌++◌}
+use mathlib.Core.List.{◌++◌}
 use lib.ListN.{length, get_or, set, take, drop, length-drop}
 use lib.Seq.{length-take-le, get_or-append-add, get_or-drop, drop-cons, set_at, append_snoc, take-suc}
 use Rattle.frames.specs.Numbers.{Bytes}

@@ -1,18 +1,16 @@
 -- A plumb leg with a compass other than 0 stands in no plain book, so the answer to its words is no.
-use Prim.Native.Nat.{ℕ, ◌+◌, ◌*◌, ◌/◌, ◌≤◌, ◌<◌}
+use Prim.Native.Nat.{ℕ, ◌+◌, ◌*◌, ◌≤◌, ◌<◌}
 use mathlib.Core.Path.{◌≡◌, refl, sym, ap, ◌∙◌}
 use mathlib.Core.Bool.{Bool, true, false}
-use mathlib.Core.Logic.{◌≢◌}
 use native.Mathlib.Omega.{arith}
-use lib.IntN.{ℤ}
 use Rattle.words.specs.declared.LegLayout.TheVariants.{FourWords}
-use Rattle.words.specs.Words.{Words, words_in_book, passage_count, last_leg, measure_word, read_of}
+use Rattle.words.specs.Words.{passage_count, measure_word}
 use Rattle.legs.specs.declared.Leg.{Leg}
 use Rattle.legs.specs.declared.Reading.TheVariants.{NoLeg, Is}
-use Rattle.legs.specs.Legs.{compass_unit, clino_unit, clino_offset, is_plumb, place_of, measure_of, leg_in_range}
+use Rattle.legs.specs.Legs.{compass_unit, clino_unit, clino_offset, place_of, measure_of}
 use Rattle.legs.specs.Reading.{reading_of}
 use Rattle.legs.proofs.RoundTrip.{legs_read_back, plumb_compass_reads_as_none}
-use Rattle.plain.specs.Plain.{Plain, NumberedLeg, in_passage, list_of, times_in, word_of, Sound}
+use Rattle.plain.specs.Plain.{Plain, in_passage, list_of, times_in, word_of, Sound}
 use Rattle.plain.proofs.Sums.{sum_below, sum_some}
 use Rattle.plain.proofs.OneList.{leg_in, leg_every, has}
 use Rattle.plain.proofs.Slots.{measure_at, measure_in, InRange}

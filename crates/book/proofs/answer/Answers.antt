@@ -5,7 +5,6 @@ use mathlib.Core.Bool.{cond, false≢true}
 use Rattle.words.specs.Words.{team_count}
 use Rattle.dispatch.proofs.Aiming.{slot_below}
 use Rattle.book.proofs.Answering.{no_step_by, step_answered, frame_answered, frame_others}
-use borrow.Author.Rules.{rules}
 use Rattle.book.proofs.answer.Goals as goal
 
 pub other_step-requires : goal.other_step-requires

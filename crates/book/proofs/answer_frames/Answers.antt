@@ -3,13 +3,12 @@ use native.Mathlib.Omega.{arith}
 use Prim.Native.Nat.{ℕ, ◌-◌, ◌<◌}
 use mathlib.Core.Path.{◌≡◌, refl, sym, subst, ◌∙◌}
 use mathlib.Core.List.{List}
-use lib.ListN.{length, get_or}
-use Rattle.tickets.specs.Table.{table_with, table_of, slot_of}
+use lib.ListN.{length}
+use Rattle.tickets.specs.Table.{table_with, table_of}
 use Rattle.calls.specs.Stream.{streamed, stream_from}
 use Rattle.book.specs.Quickly.{QuickSlots}
 use Rattle.words.specs.Words.{words_in_book, team_count}
 use Rattle.frames.specs.Requests.{step_kind}
-use Rattle.calls.specs.declared.Aim.TheVariants as Aim
 use Rattle.calls.proofs.WellMadeTables.{each_byte}
 use Rattle.tickets.proofs.MadeTables.{all_well_made_lem}
 use Rattle.dispatch.specs.declared.Ahead.TheVariants as Ahead
@@ -17,8 +16,7 @@ use Rattle.dispatch.specs.Ahead.{step_bytes, frame_at, FrameAhead, AheadInside}
 use Rattle.replies.specs.Leaving.{RoomAt}
 use Rattle.dispatch.proofs.Aiming.{slot_known}
 use Rattle.handlers.specs.Settling.{NoStep}
-use Rattle.quick.specs.Quick.{TriedSays}
-use Rattle.book.proofs.Turning.{Goes, Turn, slot_known_made}
+use Rattle.book.proofs.Turning.{Turn, slot_known_made}
 use Rattle.book.proofs.Stepping.{ends_ahead, other_than_step, quick_at, says, went_on, stepped_on, opened_on, unopened_on}
 use borrow.Author.Rules.{rules}
 use Rattle.book.proofs.answer_frames.Goals as goal

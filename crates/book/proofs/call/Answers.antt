@@ -6,7 +6,6 @@ use Rattle.tickets.specs.Table.{table_of}
 use Rattle.calls.proofs.Sending.{call_no_book, call_no_ranks, call_no_room}
 use Rattle.dispatch.proofs.Aiming.{slot_known}
 use Rattle.book.proofs.Answering.{answered_call}
-use borrow.Author.Rules.{rules}
 use Rattle.book.proofs.call.Goals as goal
 
 pub returns-then-book-ne-WORDS : goal.returns-then-book-ne-WORDS

@@ -1,7 +1,6 @@
 -- `book::is_step` meets its contract: the kind of a team's frame tells.
 use mathlib.Core.Path.{sym, ap}
 use Rattle.book.specs.Quickly.{is_step_by}
-use borrow.Author.Rules.{rules}
 use Rattle.book.proofs.is_step.Goals as goal
 
 pub returns-in-Team : goal.returns-in-Team

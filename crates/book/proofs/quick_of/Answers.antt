@@ -1,7 +1,6 @@
 -- `book::quick_of` meets its contract: the two cases of the definition.
 use mathlib.Core.Path.{sym, ap, ◌∙◌}
 use Rattle.book.specs.Quickly.{quick_for}
-use borrow.Author.Rules.{rules}
 use Rattle.book.proofs.quick_of.Goals as goal
 
 pub returns-then-known : goal.returns-then-known

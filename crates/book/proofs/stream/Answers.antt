@@ -4,7 +4,6 @@ use mathlib.Core.Path.{sym, ◌∙◌}
 use borrow.Author.Tests.{not-true, not-false}
 use Rattle.tickets.specs.Table.{table_of}
 use Rattle.calls.proofs.Streaming.{stream_whole, stream_no_book, stream_no_ranks}
-use borrow.Author.Rules.{rules}
 use Rattle.book.proofs.stream.Goals as goal
 
 pub returns-then-book-ne-WORDS : goal.returns-then-book-ne-WORDS

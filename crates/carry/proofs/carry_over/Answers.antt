@@ -9,7 +9,6 @@ use Rattle.carrying.proofs.Carrying.{length_from}
 use Rattle.carrying.proofs.Answers.{whole_right, old_wrong, second_wrong, refused_1, refused_14, refused_15, refused_16, done_by_lem}
 use Rattle.carry.specs.Writing.{moved_word, newers_set}
 use Rattle.carry.proofs.Writing.{old_links_fit, old_written}
-use borrow.Author.Rules.{rules}
 use Rattle.carry.proofs.carry_over.Goals as goal
 
 pub returns-then-old-ne-WORDS : goal.returns-then-old-ne-WORDS

@@ -1,12 +1,11 @@
 -- `carry::has_leg_above` meets its contract: the places so far are zero.
-use mathlib.Core.Path.{◌≡◌, sym, ap, ◌∙◌}
-use Prim.Native.Nat.{ℕ, ◌+◌, ◌-◌, ◌≤◌, ◌<◌}
+use mathlib.Core.Path.{sym, ap, ◌∙◌}
+use Prim.Native.Nat.{ℕ, ◌+◌}
 use native.Mathlib.Omega.{arith}
 use native.Mathlib.Decide.{ℕ_discrete}
 use Rattle.words.specs.declared.LegLayout.TheVariants.{ThreeWords}
-use Rattle.words.specs.Words.{last_leg, last_leg_in, place_word_in, read_of}
+use Rattle.words.specs.Words.{place_word_in, read_of}
 use Rattle.carrying.proofs.Above.{place_above, no_place_above}
-use borrow.Author.Rules.{rules}
 use Rattle.carry.proofs.has_leg_above.Goals as goal
 
 pub loop-leg-init : goal.loop-leg-init

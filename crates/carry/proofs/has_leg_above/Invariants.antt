@@ -1,10 +1,7 @@
-use mathlib.Core.Path.{◌≡◌, sym, ap, ◌∙◌}
-use Prim.Native.Nat.{ℕ, ◌+◌, ◌-◌, ◌≤◌, ◌<◌}
-use native.Mathlib.Omega.{arith}
-use native.Mathlib.Decide.{ℕ_discrete}
+use mathlib.Core.Path.{◌≡◌}
+use Prim.Native.Nat.{ℕ, ◌-◌, ◌≤◌, ◌<◌}
 use Rattle.words.specs.declared.LegLayout.TheVariants.{ThreeWords}
 use Rattle.words.specs.Words.{last_leg, last_leg_in, place_word_in, read_of}
-use Rattle.carrying.proofs.Above.{place_above, no_place_above}
 use Rattle.carry.proofs.has_leg_above.Given as goal
 
 abbrev pub invariant-loop-leg : goal.invariant-loop-leg

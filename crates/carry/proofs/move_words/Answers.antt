@@ -1,15 +1,14 @@
 -- `carry::move_words` meets its contract: the words so far are those moved.
-use mathlib.Core.Path.{◌≡◌, sym, ap, ◌∙◌}
-use Prim.Native.Nat.{ℕ, ◌+◌, ◌-◌, ◌≤◌, ◌<◌}
+use mathlib.Core.Path.{sym, ap, ◌∙◌}
+use Prim.Native.Nat.{ℕ, ◌<◌}
 use native.Mathlib.Omega.{arith}
-use lib.ListN.{length, get_or, set, length-set}
+use lib.ListN.{get_or, set, length-set}
 use lib.Seq.{ext_get_or}
-use Rattle.words.specs.Words.{Words, words_in_book}
-use Rattle.words.proofs.Copying.{SameUpTo, same_more}
+use Rattle.words.specs.Words.{words_in_book}
+use Rattle.words.proofs.Copying.{same_more}
 use Rattle.carrying.specs.Carrying.{words_from}
 use Rattle.carrying.proofs.Carrying.{length_from, read_whole}
 use Rattle.carry.specs.Writing.{moved_word}
-use borrow.Author.Rules.{rules}
 use Rattle.carry.proofs.move_words.Goals as goal
 
 pub loop-word-init : goal.loop-word-init

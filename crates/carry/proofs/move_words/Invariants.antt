@@ -1,12 +1,9 @@
-use mathlib.Core.Path.{◌≡◌, sym, ap, ◌∙◌}
-use Prim.Native.Nat.{ℕ, ◌+◌, ◌-◌, ◌≤◌, ◌<◌}
-use native.Mathlib.Omega.{arith}
-use lib.ListN.{length, get_or, set, length-set}
-use lib.Seq.{ext_get_or}
-use Rattle.words.specs.Words.{Words, words_in_book}
-use Rattle.words.proofs.Copying.{SameUpTo, same_more}
+use mathlib.Core.Path.{◌≡◌}
+use Prim.Native.Nat.{◌-◌, ◌≤◌}
+use lib.ListN.{length}
+use Rattle.words.specs.Words.{words_in_book}
+use Rattle.words.proofs.Copying.{SameUpTo}
 use Rattle.carrying.specs.Carrying.{words_from}
-use Rattle.carrying.proofs.Carrying.{length_from, read_whole}
 use Rattle.carry.specs.Writing.{moved_word}
 use Rattle.carry.proofs.move_words.Given as goal
 

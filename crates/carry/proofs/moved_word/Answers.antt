@@ -1,11 +1,9 @@
 -- `carry::moved_word` meets its contract, by where the word stands.
 use mathlib.Core.Path.{sym, ap, ◌∙◌}
 use Prim.Native.Nat.{ℕ, ◌+◌}
-use native.Mathlib.Omega.{arith}
 use Rattle.words.specs.Words.{read_of}
 use Rattle.carry.specs.Writing.{index_in_leg}
 use Rattle.carry.proofs.Writing.{moved_passage, moved_fourth, moved_leg}
-use borrow.Author.Rules.{rules}
 use Rattle.carry.proofs.moved_word.Goals as goal
 
 pub returns-then-word-first : goal.returns-then-word-first

@@ -1,10 +1,8 @@
 -- `carry::set_newer` meets its contract, by whether there is a leg to set it for.
 use mathlib.Core.Path.{sym, ap, ◌∙◌}
 use Prim.Native.Nat.{ℕ}
-use native.Mathlib.Omega.{arith}
 use lib.ListN.{set}
 use Rattle.carry.proofs.Writing.{newer_none, newer_put}
-use borrow.Author.Rules.{rules}
 use Rattle.carry.proofs.set_newer.Goals as goal
 
 pub returns-then-older-eq0 : goal.returns-then-older-eq0

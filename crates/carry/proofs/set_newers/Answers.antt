@@ -1,13 +1,11 @@
 -- `carry::set_newers` meets its contract: the links of the legs so far are done.
 use mathlib.Core.Path.{◌≡◌, refl, sym, ap, subst, ◌∙◌}
-use Prim.Native.Nat.{ℕ, ◌+◌, ◌-◌, ◌≤◌}
+use Prim.Native.Nat.{ℕ, ◌+◌, ◌≤◌}
 use native.Mathlib.Omega.{arith}
 use lib.ListN.{length}
-use Rattle.words.specs.declared.LegLayout.TheVariants.{ThreeWords}
-use Rattle.words.specs.Words.{Words, last_leg, link_word_in, read_of}
+use Rattle.words.specs.Words.{last_leg, read_of}
 use Rattle.carry.specs.Writing.{with_newer, newers_set}
 use Rattle.carry.proofs.Writing.{length_newers, newers_none, newers_next}
-use borrow.Author.Rules.{rules}
 use Rattle.carry.proofs.set_newers.Goals as goal
 
 pub loop-done-init : goal.loop-done-init

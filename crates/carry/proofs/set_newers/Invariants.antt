@@ -1,11 +1,8 @@
-use mathlib.Core.Path.{◌≡◌, refl, sym, ap, subst, ◌∙◌}
-use Prim.Native.Nat.{ℕ, ◌+◌, ◌-◌, ◌≤◌}
-use native.Mathlib.Omega.{arith}
+use mathlib.Core.Path.{◌≡◌}
+use Prim.Native.Nat.{◌-◌, ◌≤◌}
 use lib.ListN.{length}
-use Rattle.words.specs.declared.LegLayout.TheVariants.{ThreeWords}
-use Rattle.words.specs.Words.{Words, last_leg, link_word_in, read_of}
-use Rattle.carry.specs.Writing.{with_newer, newers_set}
-use Rattle.carry.proofs.Writing.{length_newers, newers_none, newers_next}
+use Rattle.words.specs.Words.{last_leg}
+use Rattle.carry.specs.Writing.{newers_set}
 use Rattle.carry.proofs.set_newers.Given as goal
 
 abbrev pub invariant-loop-done : goal.invariant-loop-done

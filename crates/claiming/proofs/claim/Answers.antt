@@ -3,7 +3,6 @@ use Rattle.tickets.specs.declared.Phase.TheVariants.{Claiming}
 use Rattle.replies.proofs.Standing.{phase_tells, target_asked}
 use Rattle.replies.proofs.Stepping.{target_inside}
 use Rattle.claiming.proofs.Claiming.{next_unclaimed, misses_in, edit_claims, edit_misses}
-use borrow.Author.Rules.{rules}
 use Rattle.claiming.proofs.claim.Goals as goal
 
 pub target_at-target-requires : goal.target_at-target-requires

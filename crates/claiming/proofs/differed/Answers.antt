@@ -1,11 +1,9 @@
 -- `claiming::differed` meets its contract: gone where nothing is claimed, else giving back.
-use mathlib.Core.Bool.{true, false}
 use mathlib.Core.Path.{sym, ap, subst, ◌∙◌}
 use borrow.Author.Tests.{eq-eqb, ne_eqb}
 use Rattle.tickets.specs.declared.StepAnswer.TheVariants.{Stale}
 use Rattle.replies.specs.Leaving.{Answered}
 use Rattle.claiming.proofs.Missing.{differed_by, told_by}
-use borrow.Author.Rules.{rules}
 use Rattle.claiming.proofs.differed.Goals as goal
 
 pub returns-then-ticket-eq0 : goal.returns-then-ticket-eq0

@@ -1,5 +1,5 @@
 -- `claiming::missed` meets its contract: the next target waits for its word, or tells that it differed.
-use mathlib.Core.Path.{sym, ap, subst, ◌∙◌}
+use mathlib.Core.Path.{sym, subst, ◌∙◌}
 use native.Mathlib.Omega.{arith}
 use Rattle.words.specs.Words.{holder_of}
 use Rattle.tickets.specs.declared.StepAnswer.TheVariants.{Waiting}
@@ -7,7 +7,6 @@ use Rattle.replies.specs.Leaving.{Answered}
 use Rattle.replies.proofs.Standing.{few_targets, target_fits_there}
 use Rattle.claiming.specs.Missing.{differed_answer}
 use Rattle.claiming.proofs.Missing.{next_unclaimed, miss_waits, miss_differs}
-use borrow.Author.Rules.{rules}
 use Rattle.claiming.proofs.missed.Goals as goal
 
 pub target_at-target-requires : goal.target_at-target-requires

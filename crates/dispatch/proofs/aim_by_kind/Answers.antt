@@ -1,5 +1,4 @@
 -- `dispatch::aim_by_kind` meets its contract: a look, a team below 16, or refusal 6.
-use native.Mathlib.Omega.{arith}
 use mathlib.Core.Path.{sym, ap, subst, ◌∙◌}
 use Prim.Native.Nat.{ℕ, ◌≤◌, ◌<◌}
 use lib.ListN.{length}
@@ -8,7 +7,6 @@ use Rattle.frames.specs.Requests.{part_after_kind, team_in}
 use Rattle.frames.specs.Fields.{Whole}
 use Rattle.calls.specs.declared.Aim.TheVariants as Aim
 use Rattle.dispatch.proofs.Aiming.{aim_look, aim_team, aim_nobody, team_inside}
-use borrow.Author.Rules.{rules}
 use Rattle.dispatch.proofs.aim_by_kind.Goals as goal
 
 pub returns-then-kind-eq-LOOK : goal.returns-then-kind-eq-LOOK

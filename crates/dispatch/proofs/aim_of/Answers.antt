@@ -2,7 +2,6 @@
 use mathlib.Core.Path.{sym, ap, subst, ◌∙◌}
 use Rattle.frames.specs.Fields.{WholeIfKnown}
 use Rattle.calls.specs.Way.{aim_by, aim_of}
-use borrow.Author.Rules.{rules}
 use Rattle.dispatch.proofs.aim_of.Goals as goal
 
 pub aim_by_kind-requires : goal.aim_by_kind-requires

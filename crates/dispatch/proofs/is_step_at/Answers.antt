@@ -1,15 +1,5 @@
 -- `dispatch::is_step_at` meets its contract: the three tests of the definition, in its order.
-use Prim.Native.Nat.{ℕ, ◌+◌}
-use mathlib.Core.Path.{sym, ap, ◌∙◌}
-use mathlib.Core.Bool.{false, cond}
-use borrow.Author.Tests.{lt-ltb, le-ltb, eq-eqb, ne_eqb}
-use lib.Dec.{eqb, ltb}
-use lib.ListN.{length}
-use Rattle.words.specs.Words.{team_count}
-use Rattle.frames.specs.Numbers.{number16, number32}
-use Rattle.dispatch.specs.Ahead.{step_bytes, step_head}
 use Rattle.dispatch.proofs.Steps.{step_short, step_other, step_team}
-use borrow.Author.Rules.{rules}
 use Rattle.dispatch.proofs.is_step_at.Goals as goal
 
 pub returns-then-input-at-lt-STEP : goal.returns-then-input-at-lt-STEP

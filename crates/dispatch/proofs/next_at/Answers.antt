@@ -1,17 +1,13 @@
 -- `dispatch::next_at` meets its contract: a step told by its first bytes, or the next frame, each where there is room.
 use native.Mathlib.Omega.{arith}
 use Prim.Native.Nat.{ℕ, ◌+◌, ◌<◌}
-use mathlib.Core.Path.{◌≡◌, sym, ap, subst, ◌∙◌}
-use mathlib.Core.Bool.{true}
-use borrow.Author.Tests.{not-true}
+use mathlib.Core.Path.{◌≡◌, sym, subst, ◌∙◌}
 use lib.ListN.{get_or}
 use Rattle.frames.specs.Numbers.{Bytes, number16}
-use Rattle.frames.specs.Requests.{head_bytes}
 use Rattle.calls.specs.Stream.{NextInside}
-use Rattle.dispatch.specs.Ahead.{step_at, ahead_of, AheadInside}
+use Rattle.dispatch.specs.Ahead.{ahead_of, AheadInside}
 use Rattle.dispatch.specs.declared.Ahead.TheVariants as Ahead
-use Rattle.dispatch.proofs.Steps.{StepThere, step_there_lem, step_found, step_ahead, full_ahead, end_ahead, other_ahead}
-use borrow.Author.Rules.{rules}
+use Rattle.dispatch.proofs.Steps.{step_there_lem, step_found, step_ahead, full_ahead, end_ahead, other_ahead}
 use Rattle.dispatch.proofs.next_at.Goals as goal
 
 -- Two bytes make a number of 16 bits.

@@ -6,7 +6,6 @@ use lib.ListN.{length}
 use Rattle.calls.specs.declared.Next.TheVariants.{Frame}
 use Rattle.calls.specs.Survey.{longest_field}
 use Rattle.calls.proofs.Streaming.{next_short, next_bad, next_torn, next_whole}
-use borrow.Author.Rules.{rules}
 use Rattle.dispatch.proofs.next_frame.Goals as goal
 
 pub returns-then-rest-lt-FIELD : goal.returns-then-rest-lt-FIELD

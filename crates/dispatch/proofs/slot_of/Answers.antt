@@ -1,7 +1,6 @@
 -- `dispatch::slot_of` meets its contract: a team's own slot, else the first.
 use mathlib.Core.Path.{sym, ap, subst}
 use Rattle.calls.specs.Way.{slot_of, SlotKnown}
-use borrow.Author.Rules.{rules}
 use Rattle.dispatch.proofs.slot_of.Goals as goal
 
 pub returns-in-Team : goal.returns-in-Team

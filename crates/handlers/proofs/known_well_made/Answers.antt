@@ -1,6 +1,5 @@
 -- `handlers::known_well_made` meets its contract: known, or tested.
 use Rattle.handlers.proofs.Cases.{known_passes}
-use borrow.Author.Rules.{rules}
 use Rattle.handlers.proofs.known_well_made.Goals as goal
 
 pub returns-then-known : goal.returns-then-known

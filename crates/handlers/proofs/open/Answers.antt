@@ -5,7 +5,6 @@ use Rattle.tickets.specs.Table.{gathered}
 use Rattle.frames.specs.Requests.{part_after_kind}
 use Rattle.handlers.specs.Settling.{open_by}
 use Rattle.handlers.proofs.Cases.{stands_has, stands_not, passes_made, opens_over, opens_badly, opens_edit_lem, opens_view, edit_fields_lem, view_kind_lem, view_fields, left_unopened, settled_so}
-use borrow.Author.Rules.{rules}
 use Rattle.handlers.proofs.open.Goals as goal
 
 pub returns-then-slot_well_made : goal.returns-then-slot_well_made

@@ -3,7 +3,6 @@ use mathlib.Core.Path.{refl, sym, ap, ◌∙◌}
 use Rattle.tickets.specs.Table.{gathered}
 use Rattle.calls.specs.Way.{open_settled}
 use Rattle.handlers.proofs.Cases.{read_allowed, left_opened, left_unopened, edit_opened, edit_refused}
-use borrow.Author.Rules.{rules}
 use Rattle.handlers.proofs.open_edit.Goals as goal
 
 pub open-n-requires : goal.open-n-requires

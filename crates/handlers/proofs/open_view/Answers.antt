@@ -1,9 +1,8 @@
 -- `handlers::open_view` meets its contract: the ticket that the view opens, or the refusal of its fields.
-use mathlib.Core.Path.{refl, sym, ap, ◌∙◌}
+use mathlib.Core.Path.{refl, ap, ◌∙◌}
 use Rattle.tickets.specs.Table.{gathered}
 use Rattle.calls.specs.Way.{view_settled}
 use Rattle.handlers.proofs.Cases.{view_read_opens, left_opened, left_unopened, view_opened, view_refused}
-use borrow.Author.Rules.{rules}
 use Rattle.handlers.proofs.open_view.Goals as goal
 
 pub open_view-requires : goal.open_view-requires

@@ -5,7 +5,6 @@ use Rattle.tickets.specs.Table.{gathered}
 use Rattle.calls.specs.Way.{Settled, AimKnown}
 use Rattle.handlers.specs.Settling.{NoStep}
 use Rattle.handlers.proofs.Cases.{left_unopened, refused_by, look_by, open_by_lem, settled_so, aimed_so}
-use borrow.Author.Rules.{rules}
 use Rattle.handlers.proofs.other_frame.Goals as goal
 
 pub put_look-filled-requires : goal.put_look-filled-requires

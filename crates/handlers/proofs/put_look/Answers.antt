@@ -9,7 +9,6 @@ use Rattle.calls.specs.Way.{look_answer}
 use Rattle.replies.proofs.Placing.{put_at}
 use Rattle.dispatch.proofs.Aiming.{team_inside}
 use Rattle.handlers.proofs.Cases.{looked_so}
-use borrow.Author.Rules.{rules}
 use Rattle.handlers.proofs.put_look.Goals as goal
 
 pub read16-word-requires : goal.read16-word-requires

@@ -3,7 +3,6 @@ use mathlib.Core.Path.{ap, ◌∙◌}
 use Rattle.frames.specs.declared.Answer.TheVariants as Answer
 use Rattle.frames.specs.Answers.{answer_frame, written}
 use Rattle.handlers.proofs.Cases.{look_shown, look_outside}
-use borrow.Author.Rules.{rules}
 use Rattle.handlers.proofs.write_looked.Goals as goal
 
 pub returns-then-word-lt-WORDS : goal.returns-then-word-lt-WORDS

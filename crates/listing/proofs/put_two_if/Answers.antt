@@ -6,7 +6,6 @@ use borrow.Author.Tests.{not-true, not-false}
 use lib.ListN.{length, length-set}
 use Rattle.listing.specs.Listing.{wrote, two_if}
 use Rattle.listing.proofs.Continuing.{none_wrote, two_wrote}
-use borrow.Author.Rules.{rules}
 use Rattle.listing.proofs.put_two_if.Goals as goal
 
 pub returns-then-not-wanted : goal.returns-then-not-wanted

@@ -6,10 +6,8 @@ use Rattle.words.specs.declared.LegLayout.TheVariants.{FourWords}
 use Rattle.words.specs.Words.{Words, read_of}
 use Rattle.legs.specs.Reading.{measure_in}
 use Rattle.soundness.specs.InWords.{leg_at}
-use Rattle.meeting.specs.Meeting.{meets}
 use Rattle.listing.specs.Listing.{wrote, two_if}
 use Rattle.listing.proofs.Legs.{listed_one}
-use borrow.Author.Rules.{rules}
 use Rattle.listing.proofs.write_leg.Goals as goal
 
 pub put_two_if-requires : goal.put_two_if-requires

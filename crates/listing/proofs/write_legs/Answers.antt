@@ -1,6 +1,6 @@
 -- `listing::write_legs` meets its contract: the passages that are left, written from here on, give what the whole gives.
 use mathlib.Core.Path.{subst}
-use Prim.Native.Nat.{◌+◌, ◌-◌, ◌≤◌}
+use Prim.Native.Nat.{◌+◌, ◌-◌}
 use native.Mathlib.Omega.{arith}
 use Rattle.words.specs.declared.LegLayout.TheVariants.{FourWords}
 use Rattle.words.specs.Words.{Words, passage_count}
@@ -9,7 +9,6 @@ use Rattle.soundness.specs.InWords.{list_in, lists_from, plain_in}
 use Rattle.meeting.specs.Meeting.{those_meeting, legs_at, listed_words}
 use Rattle.listing.proofs.Continuing.{Continues, begins, next_room, goes_on_lem, all_written_lem}
 use Rattle.listing.proofs.Legs.{passages_next, no_passages_left, plain_lists}
-use borrow.Author.Rules.{rules}
 use Rattle.listing.proofs.write_legs.Goals as goal
 
 pub loop-passage-init : goal.loop-passage-init

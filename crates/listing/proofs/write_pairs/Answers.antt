@@ -1,14 +1,12 @@
 -- `listing::write_pairs` meets its contract: the passages that are left, written from here on, give what the whole gives.
-use Prim.Native.Nat.{◌+◌, ◌-◌, ◌≤◌}
+use Prim.Native.Nat.{◌+◌}
 use native.Mathlib.Omega.{arith}
 use lib.ListN.{drop}
-use Rattle.words.specs.Words.{passage_count}
 use Rattle.meeting.specs.Meeting.{pairs_of, pair_words}
 use Rattle.stations.specs.Counting.{present_from}
 use Rattle.listing.specs.Listing.{pairs_with}
-use Rattle.listing.proofs.Continuing.{Continues, begins, next_room, goes_on_lem, all_written_lem}
+use Rattle.listing.proofs.Continuing.{begins, next_room, goes_on_lem, all_written_lem}
 use Rattle.listing.proofs.Pairing.{lower_next, no_pairs_behind}
-use borrow.Author.Rules.{rules}
 use Rattle.listing.proofs.write_pairs.Goals as goal
 
 pub loop-lower-init : goal.loop-lower-init

@@ -1,12 +1,9 @@
-use Prim.Native.Nat.{◌+◌, ◌-◌, ◌≤◌}
-use native.Mathlib.Omega.{arith}
+use Prim.Native.Nat.{◌-◌, ◌≤◌}
 use lib.ListN.{drop}
 use Rattle.words.specs.Words.{passage_count}
 use Rattle.meeting.specs.Meeting.{pairs_of, pair_words}
 use Rattle.stations.specs.Counting.{present_from}
-use Rattle.listing.specs.Listing.{pairs_with}
-use Rattle.listing.proofs.Continuing.{Continues, begins, next_room, goes_on_lem, all_written_lem}
-use Rattle.listing.proofs.Pairing.{lower_next, no_pairs_behind}
+use Rattle.listing.proofs.Continuing.{Continues}
 use Rattle.listing.proofs.write_pairs.Given as goal
 
 abbrev pub invariant-loop-lower : goal.invariant-loop-lower

@@ -1,18 +1,16 @@
 -- `listing::write_pairs_with` meets its contract: the pairs that are left, written from here on, give what the whole gives.
 use mathlib.Core.Path.{sym, ap, subst, ◌∙◌}
-use Prim.Native.Nat.{◌+◌, ◌-◌, ◌≤◌}
+use Prim.Native.Nat.{◌+◌, ◌≤◌}
 use mathlib.Core.List.{map}
 use mathlib.Core.Bool.{not}
 use native.Mathlib.Omega.{arith}
 use lib.Dec.{eqb}
 use lib.ListN.{length, get_or, drop}
-use Rattle.words.specs.Words.{passage_count}
 use Rattle.meeting.specs.Meeting.{pair, pair_words}
 use Rattle.stations.specs.Counting.{present_from}
 use Rattle.listing.specs.Listing.{wrote, two_if}
-use Rattle.listing.proofs.Continuing.{Continues, begins, next_room, goes_on_lem, all_written_lem, none_wrote}
+use Rattle.listing.proofs.Continuing.{begins, next_room, goes_on_lem, all_written_lem, none_wrote}
 use Rattle.listing.proofs.Pairing.{with_none, with_some, pairs_next, no_words_behind}
-use borrow.Author.Rules.{rules}
 use Rattle.listing.proofs.write_pairs_with.Goals as goal
 
 pub returns-then-counts-lower-eq0 : goal.returns-then-counts-lower-eq0

@@ -1,16 +1,10 @@
-use mathlib.Core.Path.{sym, ap, subst, ◌∙◌}
 use Prim.Native.Nat.{◌+◌, ◌-◌, ◌≤◌}
 use mathlib.Core.List.{map}
-use mathlib.Core.Bool.{not}
-use native.Mathlib.Omega.{arith}
-use lib.Dec.{eqb}
-use lib.ListN.{length, get_or, drop}
+use lib.ListN.{drop}
 use Rattle.words.specs.Words.{passage_count}
 use Rattle.meeting.specs.Meeting.{pair, pair_words}
 use Rattle.stations.specs.Counting.{present_from}
-use Rattle.listing.specs.Listing.{wrote, two_if}
-use Rattle.listing.proofs.Continuing.{Continues, begins, next_room, goes_on_lem, all_written_lem, none_wrote}
-use Rattle.listing.proofs.Pairing.{with_none, with_some, pairs_next, no_words_behind}
+use Rattle.listing.proofs.Continuing.{Continues}
 use Rattle.listing.proofs.write_pairs_with.Given as goal
 
 abbrev pub invariant-loop-higher : goal.invariant-loop-higher

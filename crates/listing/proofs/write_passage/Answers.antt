@@ -1,6 +1,6 @@
 -- `listing::write_passage` meets its contract: the legs that are left, written from here on, give what the whole gives.
 use mathlib.Core.Path.{◌≡◌, sym, ap, subst, ◌∙◌}
-use Prim.Native.Nat.{◌+◌, ◌-◌}
+use Prim.Native.Nat.{◌-◌}
 use mathlib.Core.List.{List, [], ◌∷◌, ◌++◌}
 use native.Mathlib.Omega.{arith}
 use Rattle.words.specs.declared.LegLayout.TheVariants.{FourWords}
@@ -13,7 +13,6 @@ use Rattle.meeting.specs.Meeting.{those_meeting, listed_words}
 use Rattle.listing.proofs.Continuing.{Continues, begins, next_room, goes_on_lem, all_written_lem}
 use Rattle.stations.proofs.Walking.{legs_fit, first_fits, rest_fits}
 use Rattle.listing.proofs.Legs.{listed_along, nothing_listed}
-use borrow.Author.Rules.{rules}
 use Rattle.listing.proofs.write_passage.Goals as goal
 
 pub loop-left-init : goal.loop-left-init

@@ -1,17 +1,9 @@
-use mathlib.Core.Path.{◌≡◌, sym, ap, subst, ◌∙◌}
-use Prim.Native.Nat.{◌+◌, ◌-◌}
-use mathlib.Core.List.{List, [], ◌∷◌, ◌++◌}
-use native.Mathlib.Omega.{arith}
 use Rattle.words.specs.declared.LegLayout.TheVariants.{FourWords}
-use Rattle.words.specs.Words.{Words, link_word, read_of}
-use Rattle.plain.specs.Plain.{NumberedLeg}
 use Rattle.plain.proofs.OneList.{Every}
 use Rattle.plain.proofs.Slots.{InRange}
-use Rattle.soundness.specs.InWords.{leg_at, legs_along, list_in}
+use Rattle.soundness.specs.InWords.{legs_along, list_in}
 use Rattle.meeting.specs.Meeting.{those_meeting, listed_words}
-use Rattle.listing.proofs.Continuing.{Continues, begins, next_room, goes_on_lem, all_written_lem}
-use Rattle.stations.proofs.Walking.{legs_fit, first_fits, rest_fits}
-use Rattle.listing.proofs.Legs.{listed_along, nothing_listed}
+use Rattle.listing.proofs.Continuing.{Continues}
 use Rattle.listing.proofs.write_passage.Given as goal
 
 abbrev pub invariant-loop-left : goal.invariant-loop-left

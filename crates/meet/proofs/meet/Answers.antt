@@ -12,7 +12,6 @@ use Rattle.stations.specs.Counting.{sum_of}
 use Rattle.stations.proofs.Walking.{all_few}
 use Rattle.stations.proofs.Counting.{sum_counts}
 use Rattle.meet.proofs.Whole.{list_length_lem, words_few, refused_21, list_out}
-use borrow.Author.Rules.{rules}
 use Rattle.meet.proofs.meet.Goals as goal
 
 pub returns-then-book-ne-WORDS : goal.returns-then-book-ne-WORDS

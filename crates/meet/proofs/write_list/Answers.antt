@@ -10,7 +10,6 @@ use Rattle.meeting.proofs.Rising.{length_listed}
 use Rattle.listing.proofs.Continuing.{left_room, next_room}
 use Rattle.stations.proofs.Walking.{all_few}
 use Rattle.meet.proofs.Whole.{legs_next, pairs_number_next, pairs_next, list_long, list_written}
-use borrow.Author.Rules.{rules}
 use Rattle.meet.proofs.write_list.Goals as goal
 
 pub write_legs-at-requires : goal.write_legs-at-requires

@@ -1,7 +1,6 @@
 -- `quick::advanced` meets its contract: one more claimed, or one more put.
 use mathlib.Core.Path.{sym, ap, ◌∙◌}
 use Rattle.quick.specs.Quick.{advanced_by}
-use borrow.Author.Rules.{rules}
 use Rattle.quick.proofs.advanced.Goals as goal
 
 pub claim-requires : goal.claim-requires

@@ -3,7 +3,6 @@ use mathlib.Core.Bool.{true, cond}
 use mathlib.Core.Path.{sym, ap}
 use borrow.Author.Tests.{eq-eqb, ne_eqb}
 use lib.Dec.{leb}
-use borrow.Author.Rules.{rules}
 use Rattle.quick.proofs.is_plain.Goals as goal
 
 pub returns-then-ticket-eq0 : goal.returns-then-ticket-eq0

@@ -2,7 +2,6 @@
 use native.Mathlib.Omega.{arith}
 use lib.Dec.{eqb}
 use Rattle.quick.proofs.Telling.{told_by_lem}
-use borrow.Author.Rules.{rules}
 use Rattle.quick.proofs.put_told.Goals as goal
 
 pub returns : goal.returns

@@ -2,7 +2,6 @@
 use mathlib.Core.Bool.{cond}
 use mathlib.Core.Path.{sym, ap, ◌∙◌}
 use Rattle.quick.specs.Quick.{is_plain, quick_if}
-use borrow.Author.Rules.{rules}
 use Rattle.quick.proofs.quick_swaps.Goals as goal
 
 pub returns-in-Edit : goal.returns-in-Edit

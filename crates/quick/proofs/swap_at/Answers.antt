@@ -4,7 +4,6 @@ use native.Mathlib.Omega.{arith}
 use Rattle.replies.proofs.Standing.{few_targets}
 use Rattle.quick.specs.Quick.{claims_quick}
 use Rattle.quick.proofs.Swapping.{next_below, column_near, inside_read, swap_read}
-use borrow.Author.Rules.{rules}
 use Rattle.quick.proofs.swap_at.Goals as goal
 
 pub place-at-requires : goal.place-at-requires

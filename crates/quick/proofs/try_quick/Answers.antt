@@ -2,7 +2,6 @@
 use mathlib.Core.Path.{sym, ◌∙◌}
 use native.Mathlib.Omega.{arith}
 use Rattle.quick.proofs.Trying.{went_same, went_other, not_tried, tried_by}
-use borrow.Author.Rules.{rules}
 use Rattle.quick.proofs.try_quick.Goals as goal
 
 pub returns-then-quick-ticket : goal.returns-then-quick-ticket

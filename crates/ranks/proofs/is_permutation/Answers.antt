@@ -1,15 +1,10 @@
 -- `ranks::is_permutation` meets its contract: so many numbers are marked.
 use borrow.Author.Tests.{not-true, not-false}
-use mathlib.Core.Path.{◌≡◌, refl, sym, ◌∙◌}
+use mathlib.Core.Path.{refl, sym, ◌∙◌}
 use mathlib.Core.Bool.{true, false}
-use Prim.Native.Nat.{◌-◌, ◌≤◌, ◌<◌}
+use Prim.Native.Nat.{◌-◌, ◌<◌}
 use native.Mathlib.Omega.{arith}
-use lib.ListN.{length}
-use Rattle.words.specs.Words.{passage_count}
-use Rattle.legs.specs.Positions.{all_occur_below}
-use Rattle.ranks.specs.Marking.{MarksOf}
 use Rattle.ranks.proofs.Marking.{permutation_is, permutation_other, all_next, all_none}
-use borrow.Author.Rules.{rules}
 use Rattle.ranks.proofs.is_permutation.Goals as goal
 
 pub returns-then-ranks : goal.returns-then-ranks

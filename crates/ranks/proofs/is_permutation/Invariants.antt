@@ -1,13 +1,9 @@
-use borrow.Author.Tests.{not-true, not-false}
-use mathlib.Core.Path.{◌≡◌, refl, sym, ◌∙◌}
-use mathlib.Core.Bool.{true, false}
-use Prim.Native.Nat.{◌-◌, ◌≤◌, ◌<◌}
-use native.Mathlib.Omega.{arith}
+use mathlib.Core.Path.{◌≡◌}
+use Prim.Native.Nat.{◌≤◌}
 use lib.ListN.{length}
 use Rattle.words.specs.Words.{passage_count}
 use Rattle.legs.specs.Positions.{all_occur_below}
 use Rattle.ranks.specs.Marking.{MarksOf}
-use Rattle.ranks.proofs.Marking.{permutation_is, permutation_other, all_next, all_none}
 use Rattle.ranks.proofs.is_permutation.Given as goal
 
 abbrev pub invariant-loop-number : goal.invariant-loop-number

@@ -1,15 +1,13 @@
 -- `ranks::load` meets its contract: the checks are made in the order of the refusals.
 use borrow.Author.Tests.{not-true, not-false}
-use mathlib.Core.Path.{◌≡◌, refl, sym, ap, ◌∙◌}
+use mathlib.Core.Path.{refl, sym, ◌∙◌}
 use mathlib.Core.Bool.{true, false}
 use native.Mathlib.Omega.{arith}
 use Rattle.legs.specs.Positions.{is_permutation}
 use Rattle.tickets.specs.Table.{table_of}
-use Rattle.calls.specs.Call.{book_length_wrong}
 use Rattle.calls.specs.Outcomes.{ticket_stands}
 use Rattle.calls.specs.declared.Outcome.TheVariants as Outcome
 use Rattle.ranks.proofs.Loading.{load_is, book_wrong_lem, book_right, permutation_long}
-use borrow.Author.Rules.{rules}
 use Rattle.ranks.proofs.load.Goals as goal
 
 pub returns-then-book-ne-WORDS : goal.returns-then-book-ne-WORDS

@@ -1,7 +1,7 @@
 -- `ranks::marked` meets its contract: the ranks from k on are marked.
 use mathlib.Core.Path.{◌≡◌, refl, sym, subst, ◌∙◌}
 use mathlib.Core.Bool.{true, false}
-use Prim.Native.Nat.{ℕ, ◌+◌, ◌-◌, ◌≤◌}
+use Prim.Native.Nat.{ℕ, ◌+◌, ◌-◌}
 use native.Mathlib.Omega.{arith}
 use lib.ListN.{length, get_or, length-set, replicate, get_or-replicate}
 use Rattle.words.specs.Words.{passage_count}

@@ -1,10 +1,8 @@
-use mathlib.Core.Path.{◌≡◌, refl, sym, subst, ◌∙◌}
-use mathlib.Core.Bool.{true, false}
-use Prim.Native.Nat.{ℕ, ◌+◌, ◌-◌, ◌≤◌}
-use native.Mathlib.Omega.{arith}
-use lib.ListN.{length, get_or, length-set, replicate, get_or-replicate}
+use mathlib.Core.Path.{◌≡◌}
+use Prim.Native.Nat.{◌≤◌}
+use lib.ListN.{length}
 use Rattle.words.specs.Words.{passage_count}
-use Rattle.ranks.proofs.Marking.{Marked, none_marked, one_marked, none_more}
+use Rattle.ranks.proofs.Marking.{Marked}
 use Rattle.ranks.proofs.marked.Given as goal
 
 abbrev pub invariant-loop-k : goal.invariant-loop-k

@@ -1,12 +1,9 @@
 -- `ranks::take_over` meets its contract: so many of the ranks are those loaded.
-use mathlib.Core.Path.{◌≡◌, refl, sym, ap, ◌∙◌}
-use Prim.Native.Nat.{ℕ, ◌+◌, ◌-◌, ◌≤◌, ◌<◌}
+use mathlib.Core.Path.{sym, ◌∙◌}
 use native.Mathlib.Omega.{arith}
-use lib.ListN.{length, get_or, length-set}
+use lib.ListN.{get_or, length-set}
 use lib.Seq.{ext_get_or}
-use Rattle.words.specs.Words.{passage_count}
-use Rattle.words.proofs.Copying.{SameUpTo, same_more}
-use borrow.Author.Rules.{rules}
+use Rattle.words.proofs.Copying.{same_more}
 use Rattle.ranks.proofs.take_over.Goals as goal
 
 pub loop-k-init : goal.loop-k-init

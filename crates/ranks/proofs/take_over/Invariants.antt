@@ -1,10 +1,8 @@
-use mathlib.Core.Path.{◌≡◌, refl, sym, ap, ◌∙◌}
-use Prim.Native.Nat.{ℕ, ◌+◌, ◌-◌, ◌≤◌, ◌<◌}
-use native.Mathlib.Omega.{arith}
-use lib.ListN.{length, get_or, length-set}
-use lib.Seq.{ext_get_or}
+use mathlib.Core.Path.{◌≡◌}
+use Prim.Native.Nat.{◌-◌, ◌≤◌}
+use lib.ListN.{length}
 use Rattle.words.specs.Words.{passage_count}
-use Rattle.words.proofs.Copying.{SameUpTo, same_more}
+use Rattle.words.proofs.Copying.{SameUpTo}
 use Rattle.ranks.proofs.take_over.Given as goal
 
 abbrev pub invariant-loop-k : goal.invariant-loop-k

@@ -5,7 +5,6 @@ use Rattle.tickets.specs.declared.Phase.TheVariants.{GivingBack}
 use Rattle.replies.proofs.Standing.{target_asked}
 use Rattle.replies.proofs.Stepping.{target_inside}
 use Rattle.releasing.proofs.Releasing.{next_claimed, edit_returns, edit_stale}
-use borrow.Author.Rules.{rules}
 use Rattle.releasing.proofs.give_back.Goals as goal
 
 pub target_at-target-requires : goal.target_at-target-requires

@@ -4,7 +4,6 @@ use Rattle.tickets.specs.declared.Phase.TheVariants.{Putting}
 use Rattle.replies.proofs.Standing.{target_asked}
 use Rattle.replies.proofs.Stepping.{target_inside}
 use Rattle.releasing.proofs.Releasing.{puts_next, edit_puts, edit_granted}
-use borrow.Author.Rules.{rules}
 use Rattle.releasing.proofs.put.Goals as goal
 
 pub target_at-target-requires : goal.target_at-target-requires

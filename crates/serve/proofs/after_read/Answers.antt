@@ -3,7 +3,6 @@ use native.Mathlib.Omega.{arith}
 use mathlib.Core.Path.{◌∙◌}
 use Rattle.tickets.specs.Table.{table_of}
 use Rattle.serve.proofs.Serving.{serves_end, serves_read}
-use borrow.Author.Rules.{rules}
 use Rattle.serve.proofs.after_read.Goals as goal
 
 pub returns-then-got-eq0 : goal.returns-then-got-eq0

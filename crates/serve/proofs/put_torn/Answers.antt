@@ -3,7 +3,6 @@ use Rattle.frames.specs.declared.Answer.TheVariants.{Refused}
 use Rattle.frames.specs.Answers.{answer_frame}
 use mathlib.Core.Path.{refl}
 use Rattle.replies.proofs.Placing.{put_at}
-use borrow.Author.Rules.{rules}
 use Rattle.serve.proofs.put_torn.Goals as goal
 
 pub returns : goal.returns

@@ -1,11 +1,10 @@
 -- `serve::shift` meets its contract: after k turns the first k bytes from `from` on stand at the front, and what is still to be read is as it was.
 use native.Mathlib.Omega.{arith}
-use mathlib.Core.Path.{◌≡◌, refl, sym, ap, ◌∙◌}
-use Prim.Native.Nat.{ℕ, ◌+◌, ◌-◌, ◌<◌, ◌≤◌}
+use mathlib.Core.Path.{◌≡◌, refl, ap, ◌∙◌}
+use Prim.Native.Nat.{ℕ, ◌+◌, ◌-◌, ◌<◌}
 use lib.ListN.{length, get_or, set, length-set}
 use Rattle.frames.specs.Numbers.{Bytes}
 use Rattle.serve.proofs.Moving.{moved, moved_turn}
-use borrow.Author.Rules.{rules}
 use Rattle.serve.proofs.shift.Goals as goal
 
 pub loop-k-init : goal.loop-k-init

@@ -1,9 +1,7 @@
-use native.Mathlib.Omega.{arith}
-use mathlib.Core.Path.{◌≡◌, refl, sym, ap, ◌∙◌}
-use Prim.Native.Nat.{ℕ, ◌+◌, ◌-◌, ◌<◌, ◌≤◌}
-use lib.ListN.{length, get_or, set, length-set}
-use Rattle.frames.specs.Numbers.{Bytes}
-use Rattle.serve.proofs.Moving.{moved, moved_turn}
+use mathlib.Core.Path.{◌≡◌}
+use Prim.Native.Nat.{◌+◌, ◌-◌, ◌≤◌}
+use lib.ListN.{length}
+use Rattle.serve.proofs.Moving.{moved}
 use Rattle.serve.proofs.shift.Given as goal
 
 abbrev pub invariant-loop-k : goal.invariant-loop-k

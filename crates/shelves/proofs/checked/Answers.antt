@@ -2,7 +2,6 @@
 use Rattle.calls.specs.Outcomes.{outcome_of}
 use Rattle.calls.specs.Shelves.{shelf_refusal}
 use mathlib.Core.Path.{sym}
-use borrow.Author.Rules.{rules}
 use Rattle.shelves.proofs.checked.Goals as goal
 
 pub returns-then-book : goal.returns-then-book

@@ -3,7 +3,6 @@ use mathlib.Core.Path.{ap, ◌∙◌}
 use Rattle.calls.specs.declared.Outcome.TheVariants.{Done}
 use Rattle.tickets.specs.Table.{table_of}
 use Rattle.shelves.proofs.Checks.{is_refused, back_checks, back_refused, back_done, back_right}
-use borrow.Author.Rules.{rules}
 use Rattle.shelves.proofs.come_back.Goals as goal
 
 pub returns-in_default : goal.returns-in_default

@@ -1,10 +1,8 @@
-use mathlib.Core.Path.{◌≡◌, refl, sym, ap, ◌∙◌}
-use Prim.Native.Nat.{ℕ, ◌+◌, ◌-◌, ◌≤◌, ◌<◌}
+use mathlib.Core.Path.{refl, ◌∙◌}
 use native.Mathlib.Omega.{arith}
-use lib.ListN.{length, get_or, length-set}
+use lib.ListN.{get_or, length-set}
 use lib.Seq.{ext_get_or}
-use Rattle.words.proofs.Copying.{SameUpTo, same_more}
-use borrow.Author.Rules.{rules}
+use Rattle.words.proofs.Copying.{same_more}
 use Rattle.shelves.proofs.copy_words.Goals as goal
 
 pub loop-k-init : goal.loop-k-init

@@ -7,7 +7,6 @@ use Rattle.words.specs.Words.{shelf_count}
 use Rattle.calls.specs.declared.Outcome.TheVariants.{Done}
 use Rattle.tickets.specs.Table.{table_of}
 use Rattle.shelves.proofs.Checks.{is_refused, fill_checks, fill_refused, fill_done, fill_right, unknown_is}
-use borrow.Author.Rules.{rules}
 use Rattle.shelves.proofs.fill.Goals as goal
 
 pub returns-in_default : goal.returns-in_default

@@ -3,7 +3,6 @@ use mathlib.Core.Path.{refl, sym}
 use native.Mathlib.Omega.{arith}
 use Rattle.calls.specs.Shelves.{is_filled}
 use Rattle.shelves.proofs.Checks.{shelf_wrong_lem, shelf_right, never_wrong, never_by}
-use borrow.Author.Rules.{rules}
 use Rattle.shelves.proofs.never_filled.Goals as goal
 
 pub returns-then-shelf-ge-SHELVES : goal.returns-then-shelf-ge-SHELVES

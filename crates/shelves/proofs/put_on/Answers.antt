@@ -4,7 +4,6 @@ use Prim.Native.Nat.{ℕ, ◌+◌, ◌-◌}
 use native.Mathlib.Omega.{arith}
 use lib.ListN.{take, drop}
 use Rattle.words.specs.Words.{Words, words_in_book}
-use borrow.Author.Rules.{rules}
 use Rattle.shelves.proofs.put_on.Goals as goal
 
 pub returns : goal.returns

@@ -3,7 +3,6 @@ use Prim.Native.Nat.{ℕ, ◌+◌, ◌-◌}
 use native.Mathlib.Omega.{arith}
 use lib.ListN.{take, drop}
 use Rattle.words.specs.Words.{words_in_book}
-use borrow.Author.Rules.{rules}
 use Rattle.shelves.proofs.take_from.Goals as goal
 
 pub returns : goal.returns

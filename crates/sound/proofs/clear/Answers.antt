@@ -1,10 +1,8 @@
 -- `sound::clear` meets its contract: after i turns the first i bits are 0.
-use mathlib.Core.Path.{◌≡◌, refl, ◌∙◌}
-use Prim.Native.Nat.{ℕ, ◌-◌, ◌<◌}
+use mathlib.Core.Path.{refl, ◌∙◌}
 use native.Mathlib.Omega.{arith}
-use lib.ListN.{length, get_or, length-set}
+use lib.ListN.{length-set}
 use Rattle.sound.proofs.Bits.{none_marked, cleared_more}
-use borrow.Author.Rules.{rules}
 use Rattle.sound.proofs.clear.Goals as goal
 
 pub loop-i-init : goal.loop-i-init

@@ -1,13 +1,12 @@
 -- `sound::count_ones` meets its contract: after i turns the ones of the first i bytes are counted.
-use mathlib.Core.Path.{◌≡◌, refl, sym, ap, ◌∙◌}
-use Prim.Native.Nat.{ℕ, ◌+◌, ◌-◌, ◌*◌, ◌≤◌, ◌<◌}
+use mathlib.Core.Path.{sym, ap, ◌∙◌}
+use Prim.Native.Nat.{ℕ, ◌+◌, ◌<◌}
 use native.Mathlib.Omega.{arith}
 use lib.Count.{ones, ones-le}
-use lib.ListN.{length, get_or, take}
+use lib.ListN.{length, get_or}
 use lib.Seq.{take_all}
 use Rattle.sound.specs.Bits.{ones_of}
 use Rattle.sound.proofs.Bits.{ones_start, ones_next}
-use borrow.Author.Rules.{rules}
 use Rattle.sound.proofs.count_ones.Goals as goal
 
 pub loop-i-init : goal.loop-i-init

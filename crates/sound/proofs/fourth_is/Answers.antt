@@ -1,11 +1,10 @@
 -- `sound::fourth_is` meets its contract, by the layout.
 use Prim.Native.Nat.{ℕ, ◌≤◌}
-use mathlib.Core.Path.{◌≡◌, sym, ap, subst, ◌∙◌}
+use mathlib.Core.Path.{sym, ap, subst, ◌∙◌}
 use native.Mathlib.Omega.{arith}
 use lib.Dec.{eqb}
 use Rattle.words.specs.Words.{last_leg_in, read_of}
 use Rattle.soundness.specs.Checking.{fourth_is}
-use borrow.Author.Rules.{rules}
 use Rattle.sound.proofs.fourth_is.Goals as goal
 
 pub newer_word-requires : goal.newer_word-requires

@@ -2,7 +2,6 @@
 use Prim.Native.Nat.{◌/◌, ◌%◌, ◌^◌}
 use lib.Dec.{eqb}
 use lib.ListN.{get_or}
-use borrow.Author.Rules.{rules}
 use Rattle.sound.proofs.is_marked.Goals as goal
 
 pub returns : goal.returns

@@ -2,7 +2,6 @@
 use mathlib.Core.Path.{sym, ◌∙◌}
 use borrow.Author.Tests.{not-true, not-false}
 use Rattle.sound.proofs.Bits.{went_room, counts_fit, sound_broken, sound_uncounted, sound_through}
-use borrow.Author.Rules.{rules}
 use Rattle.sound.proofs.is_sound.Goals as goal
 
 pub walk_passages-requires : goal.walk_passages-requires

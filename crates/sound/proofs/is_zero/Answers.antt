@@ -1,12 +1,10 @@
 -- `sound::is_zero` meets its contract, word by word.
-use Prim.Native.Nat.{ℕ, ◌+◌, ◌<◌}
-use mathlib.Core.Path.{◌≡◌, sym, ap, ◌∙◌}
+use Prim.Native.Nat.{ℕ, ◌+◌}
+use mathlib.Core.Path.{sym, ap, ◌∙◌}
 use native.Mathlib.Omega.{arith}
-use Rattle.words.specs.Words.{words_in_book}
 use Rattle.words.proofs.Tests.{next_test, failed_test, last_test}
 use Rattle.soundness.proofs.Walking.{zero_word, other_word}
 use Rattle.sound.proofs.Bits.{three_inside}
-use borrow.Author.Rules.{rules}
 use Rattle.sound.proofs.is_zero.Goals as goal
 
 pub bounds-book-at : goal.bounds-book-at

@@ -1,6 +1,5 @@
 -- `sound::mark` meets its contract.
 use Rattle.sound.proofs.Bits.{bit_put}
-use borrow.Author.Rules.{rules}
 use Rattle.sound.proofs.mark.Goals as goal
 
 pub returns : goal.returns

@@ -1,7 +1,7 @@
 -- `sound::may_follow` meets its contract, test by test.
 use Prim.Native.Nat.{ℕ, ◌+◌, ◌≤◌, ◌<◌}
 use mathlib.Core.Path.{◌≡◌, sym, ap, subst, ◌∙◌}
-use mathlib.Core.Bool.{Bool, true, false, false≢true}
+use mathlib.Core.Bool.{false≢true}
 use native.Mathlib.Omega.{arith}
 use borrow.Author.Tests.{not-true, not-false}
 use Rattle.legs.specs.Reading.{reading_of}
@@ -10,7 +10,6 @@ use Rattle.soundness.specs.Checking.{is_of_passage, reading_at}
 use Rattle.soundness.proofs.Walking.{no_number, used_before, reads_other, fourth_next}
 use Rattle.sound.specs.Bits.{byte_of}
 use Rattle.sound.proofs.Bits.{byte_inside, three_inside, marked_tells}
-use borrow.Author.Rules.{rules}
 use Rattle.sound.proofs.may_follow.Goals as goal
 
 pub returns-then-leg-lt1 : goal.returns-then-leg-lt1

@@ -1,15 +1,12 @@
 -- `sound::rest_zero` meets its contract: the legs so far are used, or zero.
-use mathlib.Core.Path.{◌≡◌, sym, ap, subst, ◌∙◌}
+use mathlib.Core.Path.{◌≡◌, sym, subst, ◌∙◌}
 use mathlib.Core.Bool.{true}
-use mathlib.Core.List.{List}
-use Prim.Native.Nat.{ℕ, ◌+◌, ◌-◌, ◌≤◌}
+use Prim.Native.Nat.{ℕ, ◌+◌}
 use native.Mathlib.Omega.{arith}
 use borrow.Author.Tests.{not-true, not-false}
 use Rattle.words.specs.Words.{last_leg_in}
 use Rattle.soundness.specs.Checking.{rest_zero}
 use Rattle.soundness.proofs.Walking.{rest_none, rest_next, rest_off}
-use Rattle.sound.specs.Bits.{Marked}
-use borrow.Author.Rules.{rules}
 use Rattle.sound.proofs.rest_zero.Goals as goal
 
 pub loop-done-init : goal.loop-done-init

@@ -1,12 +1,8 @@
-use mathlib.Core.Path.{◌≡◌, sym, ap, subst, ◌∙◌}
+use mathlib.Core.Path.{◌≡◌}
 use mathlib.Core.Bool.{true}
 use mathlib.Core.List.{List}
-use Prim.Native.Nat.{ℕ, ◌+◌, ◌-◌, ◌≤◌}
-use native.Mathlib.Omega.{arith}
-use borrow.Author.Tests.{not-true, not-false}
-use Rattle.words.specs.Words.{last_leg_in}
+use Prim.Native.Nat.{ℕ, ◌-◌, ◌≤◌}
 use Rattle.soundness.specs.Checking.{rest_zero}
-use Rattle.soundness.proofs.Walking.{rest_none, rest_next, rest_off}
 use Rattle.sound.specs.Bits.{Marked}
 use Rattle.sound.proofs.rest_zero.Given as goal
 

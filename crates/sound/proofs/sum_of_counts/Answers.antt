@@ -1,12 +1,11 @@
 -- `sound::sum_of_counts` meets its contract: the counts so far are summed.
-use mathlib.Core.Path.{◌≡◌, refl, sym, ap, subst, ◌∙◌}
-use Prim.Native.Nat.{ℕ, ◌+◌, ◌-◌, ◌*◌, ◌≤◌}
+use mathlib.Core.Path.{◌≡◌, sym, ap, subst, ◌∙◌}
+use Prim.Native.Nat.{ℕ, ◌+◌, ◌≤◌}
 use native.Mathlib.Omega.{arith}
 use Rattle.words.specs.declared.LegLayout.TheVariants.{ThreeWords}
 use Rattle.words.specs.Words.{passage_count, last_leg_in, count_word, read_of}
 use Rattle.soundness.specs.Checking.{counts_below}
 use Rattle.soundness.proofs.Walking.{counts_none, counts_next}
-use borrow.Author.Rules.{rules}
 use Rattle.sound.proofs.sum_of_counts.Goals as goal
 
 pub loop-passage-init : goal.loop-passage-init

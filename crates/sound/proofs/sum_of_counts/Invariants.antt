@@ -1,10 +1,8 @@
-use mathlib.Core.Path.{◌≡◌, refl, sym, ap, subst, ◌∙◌}
-use Prim.Native.Nat.{ℕ, ◌+◌, ◌-◌, ◌*◌, ◌≤◌}
-use native.Mathlib.Omega.{arith}
+use mathlib.Core.Path.{◌≡◌}
+use Prim.Native.Nat.{◌-◌, ◌*◌, ◌≤◌}
 use Rattle.words.specs.declared.LegLayout.TheVariants.{ThreeWords}
-use Rattle.words.specs.Words.{passage_count, last_leg_in, count_word, read_of}
+use Rattle.words.specs.Words.{passage_count, last_leg_in}
 use Rattle.soundness.specs.Checking.{counts_below}
-use Rattle.soundness.proofs.Walking.{counts_none, counts_next}
 use Rattle.sound.proofs.sum_of_counts.Given as goal
 
 abbrev pub invariant-loop-passage : goal.invariant-loop-passage

@@ -4,7 +4,6 @@ use mathlib.Core.Path.{sym, subst, ◌∙◌}
 use Rattle.soundness.proofs.Walking.{used_leg, unused_leg}
 use Rattle.sound.specs.Bits.{byte_of}
 use Rattle.sound.proofs.Bits.{byte_inside, marked_tells}
-use borrow.Author.Rules.{rules}
 use Rattle.sound.proofs.used_or_zero.Goals as goal
 
 pub is_marked-requires : goal.is_marked-requires

@@ -1,5 +1,5 @@
 -- `sound::walk_legs` meets its contract. The invariant: what is left of the walk gives what the whole gives.
-use mathlib.Core.Path.{◌≡◌, refl, sym, ap, subst, ◌∙◌}
+use mathlib.Core.Path.{refl, sym, ap, subst, ◌∙◌}
 use mathlib.Core.List.{List}
 use mathlib.Core.Option.{Option}
 use Prim.Native.Nat.{ℕ, ◌-◌, ◌<◌}
@@ -8,10 +8,8 @@ use borrow.Author.Tests.{not-true, not-false}
 use lib.ListN.{length, length-set}
 use Rattle.words.specs.Words.{read_of}
 use Rattle.soundness.specs.Checking.{walk}
-use Rattle.soundness.specs.Answering.{bit_bytes}
-use Rattle.sound.specs.Bits.{byte_of, with_bit, Marked}
+use Rattle.sound.specs.Bits.{byte_of, with_bit}
 use Rattle.sound.proofs.Bits.{byte_inside, leg_fits, three_inside, Walking, walking_off, walking_on, walking_ends}
-use borrow.Author.Rules.{rules}
 use Rattle.sound.proofs.walk_legs.Goals as goal
 
 pub loop-left-init : goal.loop-left-init

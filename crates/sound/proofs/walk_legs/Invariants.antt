@@ -1,15 +1,11 @@
-use mathlib.Core.Path.{◌≡◌, refl, sym, ap, subst, ◌∙◌}
+use mathlib.Core.Path.{◌≡◌}
 use mathlib.Core.List.{List}
-use mathlib.Core.Option.{Option}
-use Prim.Native.Nat.{ℕ, ◌-◌, ◌<◌}
-use native.Mathlib.Omega.{arith}
-use borrow.Author.Tests.{not-true, not-false}
-use lib.ListN.{length, length-set}
-use Rattle.words.specs.Words.{read_of}
+use Prim.Native.Nat.{ℕ}
+use lib.ListN.{length}
 use Rattle.soundness.specs.Checking.{walk}
 use Rattle.soundness.specs.Answering.{bit_bytes}
-use Rattle.sound.specs.Bits.{byte_of, with_bit, Marked}
-use Rattle.sound.proofs.Bits.{byte_inside, leg_fits, three_inside, Walking, walking_off, walking_on, walking_ends}
+use Rattle.sound.specs.Bits.{Marked}
+use Rattle.sound.proofs.Bits.{Walking}
 use Rattle.sound.proofs.walk_legs.Given as goal
 
 abbrev pub invariant-loop-left : goal.invariant-loop-left

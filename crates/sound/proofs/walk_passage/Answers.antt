@@ -3,7 +3,6 @@ use Prim.Native.Nat.{◌≤◌, ◌<◌}
 use native.Mathlib.Omega.{arith}
 use Rattle.words.specs.Words.{last_leg_in, read_of}
 use Rattle.sound.proofs.Bits.{went_passage, went_above}
-use borrow.Author.Rules.{rules}
 use Rattle.sound.proofs.walk_passage.Goals as goal
 
 pub returns-then-last_leg_in-count : goal.returns-then-last_leg_in-count

@@ -1,12 +1,10 @@
 -- `sound::walk_passages` meets its contract: the passages so far are walked, and the bits are those of the legs used.
 use mathlib.Core.List.{[]}
-use Prim.Native.Nat.{◌-◌, ◌≤◌}
 use native.Mathlib.Omega.{arith}
 use borrow.Author.Tests.{not-true, not-false}
 use Rattle.words.specs.Words.{passage_count}
 use Rattle.soundness.proofs.Walking.{below_none}
-use Rattle.sound.proofs.Bits.{Reached, reached_on, reached_off, reached_all}
-use borrow.Author.Rules.{rules}
+use Rattle.sound.proofs.Bits.{reached_on, reached_off, reached_all}
 use Rattle.sound.proofs.walk_passages.Goals as goal
 
 pub loop-passage-init : goal.loop-passage-init

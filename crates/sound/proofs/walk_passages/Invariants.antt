@@ -1,10 +1,6 @@
-use mathlib.Core.List.{[]}
 use Prim.Native.Nat.{◌-◌, ◌≤◌}
-use native.Mathlib.Omega.{arith}
-use borrow.Author.Tests.{not-true, not-false}
 use Rattle.words.specs.Words.{passage_count}
-use Rattle.soundness.proofs.Walking.{below_none}
-use Rattle.sound.proofs.Bits.{Reached, reached_on, reached_off, reached_all}
+use Rattle.sound.proofs.Bits.{Reached}
 use Rattle.sound.proofs.walk_passages.Given as goal
 
 abbrev pub invariant-loop-passage : goal.invariant-loop-passage

@@ -5,7 +5,6 @@ use Prim.Native.Nat.{ℕ}
 use Rattle.words.specs.declared.LegLayout.TheVariants.{FourWords}
 use Rattle.soundness.specs.InWords.{leg_at}
 use Rattle.stations.proofs.Walking.{count_one}
-use borrow.Author.Rules.{rules}
 use Rattle.stations.proofs.count_leg.Goals as goal
 
 pub returns-then-has_station : goal.returns-then-has_station

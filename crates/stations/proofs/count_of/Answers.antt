@@ -1,6 +1,6 @@
 -- `stations::count_of` meets its contract: the legs counted and those that are left make up the whole.
 use mathlib.Core.Path.{◌≡◌, sym, ap, subst}
-use Prim.Native.Nat.{◌+◌, ◌-◌}
+use Prim.Native.Nat.{◌-◌}
 use native.Mathlib.Omega.{arith}
 use lib.ListN.{length}
 use Rattle.words.specs.declared.LegLayout.TheVariants.{FourWords}
@@ -10,7 +10,6 @@ use Rattle.plain.proofs.Slots.{InRange}
 use Rattle.soundness.specs.InWords.{legs_along, list_in}
 use Rattle.meeting.specs.Meeting.{those_meeting}
 use Rattle.stations.proofs.Walking.{legs_fit, those_few, first_fits, rest_fits, count_along, none_along}
-use borrow.Author.Rules.{rules}
 use Rattle.stations.proofs.count_of.Goals as goal
 
 pub loop-left-init : goal.loop-left-init

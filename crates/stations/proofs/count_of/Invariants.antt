@@ -1,14 +1,11 @@
-use mathlib.Core.Path.{◌≡◌, sym, ap, subst}
-use Prim.Native.Nat.{◌+◌, ◌-◌}
-use native.Mathlib.Omega.{arith}
+use mathlib.Core.Path.{◌≡◌}
+use Prim.Native.Nat.{◌+◌}
 use lib.ListN.{length}
 use Rattle.words.specs.declared.LegLayout.TheVariants.{FourWords}
-use Rattle.words.specs.Words.{read_of}
 use Rattle.plain.proofs.OneList.{Every}
 use Rattle.plain.proofs.Slots.{InRange}
 use Rattle.soundness.specs.InWords.{legs_along, list_in}
 use Rattle.meeting.specs.Meeting.{those_meeting}
-use Rattle.stations.proofs.Walking.{legs_fit, those_few, first_fits, rest_fits, count_along, none_along}
 use Rattle.stations.proofs.count_of.Given as goal
 
 abbrev pub invariant-loop-left : goal.invariant-loop-left

@@ -1,17 +1,15 @@
 -- `stations::counts_at` meets its contract: the counts so far are those of the passages.
-use mathlib.Core.Path.{◌≡◌, sym, ap, ◌∙◌}
-use Prim.Native.Nat.{ℕ, ◌-◌, ◌≤◌}
+use mathlib.Core.Path.{sym, ap, ◌∙◌}
+use Prim.Native.Nat.{ℕ}
 use native.Mathlib.Omega.{arith}
-use lib.ListN.{length, get_or, set, length-set}
+use lib.ListN.{get_or, set, length-set}
 use lib.Seq.{ext_get_or}
 use Rattle.words.specs.declared.LegLayout.TheVariants.{FourWords}
-use Rattle.words.specs.Words.{passage_count}
-use Rattle.words.proofs.Copying.{SameUpTo, same_more}
+use Rattle.words.proofs.Copying.{same_more}
 use Rattle.soundness.specs.InWords.{plain_in}
 use Rattle.stations.specs.Counting.{counts_at}
 use Rattle.stations.proofs.Walking.{length_plain}
 use Rattle.stations.proofs.Counting.{length_counts, count_told}
-use borrow.Author.Rules.{rules}
 use Rattle.stations.proofs.counts_at.Goals as goal
 
 pub loop-passage-init : goal.loop-passage-init

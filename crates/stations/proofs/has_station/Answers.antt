@@ -7,7 +7,6 @@ use Rattle.words.specs.Words.{read_of}
 use Rattle.legs.specs.Reading.{stations_in}
 use Rattle.soundness.specs.InWords.{leg_at}
 use Rattle.stations.proofs.Walking.{from_there, from_elsewhere}
-use borrow.Author.Rules.{rules}
 use Rattle.stations.proofs.has_station.Goals as goal
 
 pub returns-then-from_in-sought : goal.returns-then-from_in-sought

@@ -7,7 +7,6 @@ use Rattle.words.specs.Words.{passage_count}
 use Rattle.stations.specs.declared.Size.{Size}
 use Rattle.stations.specs.Counting.{sum_of, with_passage, size_of}
 use Rattle.stations.proofs.Counting.{size_legs, size_next, size_none, sum_next, sum_most, few_passages, few_pairs}
-use borrow.Author.Rules.{rules}
 use Rattle.stations.proofs.size_of.Goals as goal
 
 pub loop-left-init : goal.loop-left-init

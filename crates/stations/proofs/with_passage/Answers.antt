@@ -1,7 +1,6 @@
 -- `stations::with_passage` meets its contract, by whether the passage has a leg there.
 use mathlib.Core.Path.{sym}
 use Rattle.stations.proofs.Counting.{passage_empty, passage_counted}
-use borrow.Author.Rules.{rules}
 use Rattle.stations.proofs.with_passage.Goals as goal
 
 pub returns-then-count-eq0 : goal.returns-then-count-eq0

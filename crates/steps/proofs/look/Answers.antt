@@ -3,7 +3,6 @@ use mathlib.Core.Path.{sym, ap, ◌∙◌}
 use Rattle.words.specs.Words.{is_held}
 use Rattle.tickets.specs.declared.LookAnswer.TheVariants.{Value}
 use Rattle.tickets.proofs.Settled.{look_held, look_value}
-use borrow.Author.Rules.{rules}
 use Rattle.steps.proofs.look.Goals as goal
 
 pub returns-then-is_held : goal.returns-then-is_held

@@ -1,7 +1,6 @@
 -- `steps::step` meets its contract: each arm is the step of its phase.
 use mathlib.Core.Path.{sym, ◌∙◌}
 use Rattle.steps.proofs.Stepping.{no_step}
-use borrow.Author.Rules.{rules}
 use Rattle.steps.proofs.step.Goals as goal
 
 pub claim-requires : goal.claim-requires

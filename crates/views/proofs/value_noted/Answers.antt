@@ -1,16 +1,13 @@
 -- `views::value_noted` meets its contract: what is asked of all targets is asked of those not yet passed.
-use Prim.Native.Nat.{◌-◌}
-use mathlib.Core.Path.{◌≡◌, sym, ap, ◌∙◌}
+use mathlib.Core.Path.{sym, ap, ◌∙◌}
 use mathlib.Core.List.{List}
 use native.Mathlib.Omega.{arith}
 use Rattle.tickets.specs.declared.Target.{Target}
-use Rattle.tickets.specs.Tickets.{targets_from, targets_in}
 use Rattle.tickets.specs.Steps.{value_noted}
 use Rattle.tickets.specs.Table.{targets_of}
 use Rattle.tickets.proofs.TargetLists.{all_targets}
 use Rattle.tickets.proofs.Passing.{noted_none}
 use Rattle.views.proofs.Seeing.{noted_read, noted_passed}
-use borrow.Author.Rules.{rules}
 use Rattle.views.proofs.value_noted.Goals as goal
 
 pub loop-k-init : goal.loop-k-init

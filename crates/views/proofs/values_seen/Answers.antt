@@ -1,9 +1,7 @@
 -- `views::values_seen` meets its contract: the value of each name is stored in turn.
-use Prim.Native.Nat.{◌-◌, ◌≤◌}
 use native.Mathlib.Omega.{arith}
 use Rattle.tickets.specs.Table.{targets_of}
-use Rattle.views.proofs.Seeing.{shown_read, ShownTo, shown_none, shown_next, shown_all}
-use borrow.Author.Rules.{rules}
+use Rattle.views.proofs.Seeing.{shown_read, shown_none, shown_next, shown_all}
 use Rattle.views.proofs.values_seen.Goals as goal
 
 pub loop-k-init : goal.loop-k-init

@@ -1,7 +1,6 @@
-use Prim.Native.Nat.{◌-◌, ◌≤◌}
-use native.Mathlib.Omega.{arith}
+use Prim.Native.Nat.{◌-◌}
 use Rattle.tickets.specs.Table.{targets_of}
-use Rattle.views.proofs.Seeing.{shown_read, ShownTo, shown_none, shown_next, shown_all}
+use Rattle.views.proofs.Seeing.{ShownTo}
 use Rattle.views.proofs.values_seen.Given as goal
 
 abbrev pub invariant-loop-k : goal.invariant-loop-k

@@ -5,7 +5,6 @@ use Rattle.replies.proofs.Standing.{phase_tells, few_targets, target_asked}
 use Rattle.replies.proofs.Stepping.{target_inside}
 use Rattle.tickets.specs.declared.Phase.TheVariants.{Viewing}
 use Rattle.views.proofs.Viewing.{noted_elsewhere, nothing_elsewhere, next_unclaimed, view_waits, view_notes}
-use borrow.Author.Rules.{rules}
 use Rattle.views.proofs.view_claim.Goals as goal
 
 pub target_at-target-requires : goal.target_at-target-requires

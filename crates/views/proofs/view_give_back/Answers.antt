@@ -5,7 +5,6 @@ use Rattle.replies.proofs.Standing.{target_asked}
 use Rattle.replies.proofs.Stepping.{target_inside}
 use Rattle.tickets.specs.declared.Phase.TheVariants.{Viewed}
 use Rattle.views.proofs.Viewing.{few_named, next_claimed, view_returns, view_sees}
-use borrow.Author.Rules.{rules}
 use Rattle.views.proofs.view_give_back.Goals as goal
 
 pub target_at-target-requires : goal.target_at-target-requires
