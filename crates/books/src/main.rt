@@ -9,9 +9,9 @@ ghost use Rattle.std.specs.Prelude.{◌+◌, ◌≤◌, ◌<◌, length};
 
 use desk::{Given, Room, at_most, say};
 use frames::numbers::read16;
-use libc::STDIN_FILENO;
 use sound::Scratch;
 use soundness::Checked;
+use std::io::{Stdin, Stdout};
 
 // The buffer of which a part is lent: the bytes before that part, its bytes at most, and some behind them.
 #[derive(Drop)]
@@ -38,21 +38,21 @@ impl Case {
     const HEAD: usize = 6;
 }
 
-fn tell(answer: Checked) {
+fn tell(stdout: Stdout, answer: Checked) {
     match answer {
-        Checked::Yes => say::text(b"yes"),
-        Checked::No => say::text(b"no"),
-        Checked::WrongBookLength => say::text(b"refused 1"),
-        Checked::ScratchTooShort => say::text(b"refused 12"),
+        Checked::Yes => say::text(stdout, b"yes"),
+        Checked::No => say::text(stdout, b"no"),
+        Checked::WrongBookLength => say::text(stdout, b"refused 1"),
+        Checked::ScratchTooShort => say::text(stdout, b"refused 12"),
     }
 }
 
-fn tell_end(spoiled: bool) {
+fn tell_end(stdout: Stdout, spoiled: bool) {
     if spoiled {
-        say::text(b" spoiled\n");
+        say::text(stdout, b" spoiled\n");
         return;
     }
-    say::text(b"\n");
+    say::text(stdout, b"\n");
 }
 
 fn fill(sector: &mut [u8], filling: u8) {
@@ -87,24 +87,24 @@ fn is_spoiled(sector: &[u8], lent: usize, filling: u8) -> bool
     true
 }
 
-fn check_in(book: &[u64], sector: &mut [u8], lent: usize)
+fn check_in(stdout: Stdout, book: &[u64], sector: &mut [u8], lent: usize)
     requires { 64 + lent ≤ length sector.old }
 {
     let scratch = &mut sector[Sector::BEFORE..Sector::BEFORE + lent];
     let answer = sound::check(book, scratch);
-    tell(answer);
+    tell(stdout, answer);
 }
 
-fn check_book(book: &[u64], sector: &mut [u8], lent: usize, filling: u8)
+fn check_book(stdout: Stdout, book: &[u64], sector: &mut [u8], lent: usize, filling: u8)
     requires { 64 + lent ≤ length sector.old }
 {
     fill(sector, filling);
-    check_in(book, sector, lent);
+    check_in(stdout, book, sector, lent);
     let spoiled = is_spoiled(sector, lent, filling);
-    tell_end(spoiled);
+    tell_end(stdout, spoiled);
 }
 
-fn check_case(words: &mut [u64], sector: &mut [u8], case: &[u8], filling: u8)
+fn check_case(stdout: Stdout, words: &mut [u64], sector: &mut [u8], case: &[u8], filling: u8)
     requires { (4097 ≤ length words.old) × (64 + 2000 ≤ length sector.old) × (6 ≤ length case.now) }
 {
     let lent = at_most(read16(case, 0) as usize, Sector::MOST_LENT);
@@ -112,7 +112,7 @@ fn check_case(words: &mut [u64], sector: &mut [u8], case: &[u8], filling: u8)
     let book = &mut words[0..book_words];
     desk::fill_words(book, 0);
     desk::set_words(book, &case[Case::HEAD..]);
-    check_book(book, sector, lent, filling);
+    check_book(stdout, book, sector, lent, filling);
 }
 
 // How many bytes the first case has; 0 where it isn't whole.
@@ -132,6 +132,7 @@ fn first_case(rest: &[u8]) -> usize
 
 // Checks the first case; how many bytes it has.
 fn check_first(
+    stdout: Stdout,
     words: &mut [u64; Room::WORDS],
     sector: &mut [u8; Sector::BYTES],
     rest: &[u8],
@@ -143,7 +144,7 @@ fn check_first(
     if count < Case::HEAD {
         return 0;
     }
-    check_case(words, sector, &rest[0..count], filling);
+    check_case(stdout, words, sector, &rest[0..count], filling);
     count
 }
 
@@ -155,11 +156,16 @@ fn next_filling(filling: u8) -> u8 {
     }
 }
 
-fn check_cases(words: &mut [u64; Room::WORDS], sector: &mut [u8; Sector::BYTES], input: &[u8]) {
+fn check_cases(
+    stdout: Stdout,
+    words: &mut [u64; Room::WORDS],
+    sector: &mut [u8; Sector::BYTES],
+    input: &[u8],
+) {
     let mut at: usize = 0;
     let mut filling = Sector::ONES;
     while at < input.len() {
-        let count = check_first(words, sector, &input[at..], filling);
+        let count = check_first(stdout, words, sector, &input[at..], filling);
         if count == 0 {
             return;
         }
@@ -169,26 +175,36 @@ fn check_cases(words: &mut [u64; Room::WORDS], sector: &mut [u8; Sector::BYTES],
 }
 
 fn check_input(
+    stdin: Stdin,
+    stdout: Stdout,
     buffer: &mut [u8],
     words: &mut [u64; Room::WORDS],
     sector: &mut [u8; Sector::BYTES],
 ) {
-    let have = io::read_full(STDIN_FILENO, buffer);
-    check_cases(words, sector, &buffer[0..have]);
+    let have = desk::read_full(stdin, buffer);
+    check_cases(stdout, words, sector, &buffer[0..have]);
 }
 
 // Takes the buffer as an array, so that the length of a million zeros is known by their type and is not counted.
 fn check_with(
+    stdin: Stdin,
+    stdout: Stdout,
     buffer: &mut [u8; Room::INPUT],
     words: &mut [u64; Room::WORDS],
     sector: &mut [u8; Sector::BYTES],
 ) {
-    check_input(buffer, words, sector);
+    check_input(stdin, stdout, buffer, words, sector);
 }
 
-fn main() {
+fn main(rt: HostRuntime) {
     let mut buffer = [0u8; Room::INPUT];
     let mut words = [0u64; Room::WORDS];
     let mut sector = [0u8; Sector::BYTES];
-    check_with(&mut buffer, &mut words, &mut sector);
+    check_with(
+        rt.stdin(),
+        rt.stdout(),
+        &mut buffer,
+        &mut words,
+        &mut sector,
+    );
 }

@@ -15,7 +15,7 @@ ghost use Rattle.tickets.specs.Table.{target_room};
 use calls::Outcome;
 use desk::{Given, Room, at_most, read64, say};
 use frames::numbers::read16;
-use libc::STDIN_FILENO;
+use std::io::{Stdin, Stdout};
 use tickets::Tickets;
 use words::Limits;
 
@@ -155,40 +155,47 @@ fn ends_of(rest: &[u8]) -> Ends
     }
 }
 
-fn tell(outcome: Outcome) {
+fn tell(stdout: Stdout, outcome: Outcome) {
     match outcome {
-        Outcome::Done => say::text(b"carried"),
+        Outcome::Done => say::text(stdout, b"carried"),
         Outcome::Refused(number) => {
-            say::text(b"refused");
-            say::number(number as u64);
+            say::text(stdout, b"refused");
+            say::number(stdout, number as u64);
         }
     }
-    say::end();
+    say::end(stdout);
 }
 
-fn tell_word(second: &[u64], word: usize, before: u64) {
+fn tell_word(stdout: Stdout, second: &[u64], word: usize, before: u64) {
     if second.len() <= word {
         return;
     }
-    say::change(word, before, second[word]);
+    say::change(stdout, word, before, second[word]);
 }
 
-fn tell_words(before: &[u64], second: &[u64]) {
+fn tell_words(stdout: Stdout, before: &[u64], second: &[u64]) {
     let mut word: usize = 0;
     while word < before.len() {
-        tell_word(second, word, before[word]);
+        tell_word(stdout, second, word, before[word]);
         word += 1;
     }
 }
 
-fn carry_books(old: &[u64], before: &[u64], second: &mut [u64], tickets: Tickets) {
+fn carry_books(stdout: Stdout, old: &[u64], before: &[u64], second: &mut [u64], tickets: Tickets) {
     let outcome = carry::carry_over(old, second, tickets);
-    tell(outcome);
-    tell_words(before, second);
+    tell(stdout, outcome);
+    tell_words(stdout, before, second);
 }
 
 // The words of the old book, of the second as it was, and of the second: made, and carried over.
-fn carry_given(old: &mut [u64], before: &mut [u64], second: &mut [u64], case: &[u8], ends: Ends)
+fn carry_given(
+    stdout: Stdout,
+    old: &mut [u64],
+    before: &mut [u64],
+    second: &mut [u64],
+    case: &[u8],
+    ends: Ends,
+)
     requires { (18 ≤ ends.slots) × (ends.slots ≤ ends.old) × (ends.old ≤ ends.second) × (ends.second ≤ length case.now) }
 {
     let slots_end = ends.slots;
@@ -200,11 +207,18 @@ fn carry_given(old: &mut [u64], before: &mut [u64], second: &mut [u64], case: &[
     make_book(before, value, given);
     make_book(second, value, given);
     let tickets = tickets_in(&case[Case::HEAD..slots_end]);
-    carry_books(old, before, second, tickets);
+    carry_books(stdout, old, before, second, tickets);
 }
 
 // A case, in so many words of each book as it says.
-fn carry_case(old: &mut [u64], before: &mut [u64], second: &mut [u64], case: &[u8], ends: Ends)
+fn carry_case(
+    stdout: Stdout,
+    old: &mut [u64],
+    before: &mut [u64],
+    second: &mut [u64],
+    case: &[u8],
+    ends: Ends,
+)
     requires { (4097 ≤ length old.old) × (4097 ≤ length before.old) × (4097 ≤ length second.old) × (18 ≤ ends.slots) × (ends.slots ≤ ends.old) × (ends.old ≤ ends.second) × (ends.second ≤ length case.now) }
 {
     let old_words = at_most(read16(case, 0) as usize, Room::WORDS);
@@ -212,11 +226,12 @@ fn carry_case(old: &mut [u64], before: &mut [u64], second: &mut [u64], case: &[u
     let old_book = &mut old[0..old_words];
     let before_book = &mut before[0..second_words];
     let second_book = &mut second[0..second_words];
-    carry_given(old_book, before_book, second_book, case, ends);
+    carry_given(stdout, old_book, before_book, second_book, case, ends);
 }
 
 // Carries over the first case; how many bytes it has.
 fn carry_first(
+    stdout: Stdout,
     old: &mut [u64; Room::WORDS],
     before: &mut [u64; Room::WORDS],
     second: &mut [u64; Room::WORDS],
@@ -229,11 +244,12 @@ fn carry_first(
         return 0;
     }
     let count = ends.second;
-    carry_case(old, before, second, rest, ends);
+    carry_case(stdout, old, before, second, rest, ends);
     count
 }
 
 fn carry_cases(
+    stdout: Stdout,
     old: &mut [u64; Room::WORDS],
     before: &mut [u64; Room::WORDS],
     second: &mut [u64; Room::WORDS],
@@ -241,7 +257,7 @@ fn carry_cases(
 ) {
     let mut at: usize = 0;
     while at < input.len() {
-        let count = carry_first(old, before, second, &input[at..]);
+        let count = carry_first(stdout, old, before, second, &input[at..]);
         if count == 0 {
             return;
         }
@@ -250,29 +266,40 @@ fn carry_cases(
 }
 
 fn carry_input(
+    stdin: Stdin,
+    stdout: Stdout,
     buffer: &mut [u8],
     old: &mut [u64; Room::WORDS],
     before: &mut [u64; Room::WORDS],
     second: &mut [u64; Room::WORDS],
 ) {
-    let have = io::read_full(STDIN_FILENO, buffer);
-    carry_cases(old, before, second, &buffer[0..have]);
+    let have = desk::read_full(stdin, buffer);
+    carry_cases(stdout, old, before, second, &buffer[0..have]);
 }
 
 // Takes the buffer as an array, so that the length of a million zeros is known by their type and is not counted.
 fn carry_with(
+    stdin: Stdin,
+    stdout: Stdout,
     buffer: &mut [u8; Room::INPUT],
     old: &mut [u64; Room::WORDS],
     before: &mut [u64; Room::WORDS],
     second: &mut [u64; Room::WORDS],
 ) {
-    carry_input(buffer, old, before, second);
+    carry_input(stdin, stdout, buffer, old, before, second);
 }
 
-fn main() {
+fn main(rt: HostRuntime) {
     let mut buffer = [0u8; Room::INPUT];
     let mut old = [0u64; Room::WORDS];
     let mut before = [0u64; Room::WORDS];
     let mut second = [0u64; Room::WORDS];
-    carry_with(&mut buffer, &mut old, &mut before, &mut second);
+    carry_with(
+        rt.stdin(),
+        rt.stdout(),
+        &mut buffer,
+        &mut old,
+        &mut before,
+        &mut second,
+    );
 }

@@ -4,6 +4,7 @@
 ghost use Rattle.std.specs.Prelude.{◌+◌, ◌≤◌, ◌<◌, length};
 
 use frames::numbers::{Bits, read16, read32};
+use std::io::{Read, Stdin};
 use tickets::{Kind, Ticket};
 use words::Limits;
 
@@ -19,6 +20,31 @@ impl Room {
     pub const OUTPUT: usize = 64;
 
     pub const INPUT: usize = 1048576;
+}
+
+// How many bytes came; 0 at the end of the input, and where the read failed.
+fn read_some(mut stdin: Stdin, rest: &mut [u8]) -> usize
+    ensures { result ≤ length rest.new }
+{
+    match stdin.read(rest) {
+        Ok(count) => count,
+        Err(_) => 0,
+    }
+}
+
+// Reads until the buffer is full, the input ends or a read fails; how many bytes stand at its start.
+pub fn read_full(stdin: Stdin, buffer: &mut [u8]) -> usize
+    ensures { result ≤ length buffer.new }
+{
+    let mut done: usize = 0;
+    while done < buffer.len() {
+        let count = read_some(stdin, &mut buffer[done..]);
+        if count == 0 {
+            return done;
+        }
+        done += count;
+    }
+    done
 }
 
 // A call of the input is five numbers of 16 bits, low byte first: its tag, the words of the book lent, the size of what is lent

@@ -1,5 +1,4 @@
 -- A signed number of 16 bits and its magnitude fit what they are widened to.
-use Prim.Native.Nat.{ℕ}
 use mathlib.Core.Path.{◌≡◌, sym}
 use mathlib.Core.Bool.{true, false, false≢true}
 use native.Mathlib.Omega.{arith}

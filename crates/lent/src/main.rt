@@ -20,7 +20,7 @@ ghost use Rattle.tickets.specs.Table.{target_room};
 use desk::{Place, Room, at_most, read64, say};
 use frames::numbers::{Bits, read16};
 use legs::{Leg, Reading};
-use libc::STDIN_FILENO;
+use std::io::{Stdin, Stdout};
 use tickets::{Phase, Ticket, Tickets};
 use words::Limits;
 
@@ -111,38 +111,38 @@ fn with_slot(mut state: State, team: usize, slot: Ticket) -> State {
     state
 }
 
-fn tell_words(before: &[u64; Room::WORDS], after: &[u64; Room::WORDS]) {
+fn tell_words(stdout: Stdout, before: &[u64; Room::WORDS], after: &[u64; Room::WORDS]) {
     let mut word: usize = 0;
     while word < Room::WORDS {
-        say::change(word, before[word], after[word]);
+        say::change(stdout, word, before[word], after[word]);
         word += 1;
     }
 }
 
-fn tell_phase(phase: Phase) {
+fn tell_phase(stdout: Stdout, phase: Phase) {
     match phase {
-        Phase::NoTicket => say::text(b" none"),
-        Phase::Claiming => say::text(b" claiming"),
-        Phase::Putting => say::text(b" putting"),
-        Phase::GivingBack => say::text(b" giving-back"),
-        Phase::Viewing => say::text(b" viewing"),
-        Phase::Viewed => say::text(b" viewed"),
+        Phase::NoTicket => say::text(stdout, b" none"),
+        Phase::Claiming => say::text(stdout, b" claiming"),
+        Phase::Putting => say::text(stdout, b" putting"),
+        Phase::GivingBack => say::text(stdout, b" giving-back"),
+        Phase::Viewing => say::text(stdout, b" viewing"),
+        Phase::Viewed => say::text(stdout, b" viewed"),
     }
 }
 
 // The first n targets, or those that there is room for.
-fn tell_targets(targets: &[u64], team: usize, n: u16)
+fn tell_targets(stdout: Stdout, targets: &[u64], team: usize, n: u16)
     requires { (team < team_count) × (3 * (target_room * team_count) ≤ length targets.now) }
 {
     let many = at_most(n as usize, Tickets::ROOM);
     let first = Tickets::place(team, 0);
     let end = first + Tickets::TARGET * many;
-    say::text(b" :");
-    say::numbers(&targets[first..end]);
-    say::end();
+    say::text(stdout, b" :");
+    say::numbers(stdout, &targets[first..end]);
+    say::end(stdout);
 }
 
-fn tell_ticket(targets: &[u64; Tickets::NUMBERS], team: usize, ticket: Ticket)
+fn tell_ticket(stdout: Stdout, targets: &[u64; Tickets::NUMBERS], team: usize, ticket: Ticket)
     requires { team < team_count }
 {
     if !ticket.stands() {
@@ -154,32 +154,38 @@ fn tell_ticket(targets: &[u64; Tickets::NUMBERS], team: usize, ticket: Ticket)
         ticket.done as u64,
         ticket.tries as u64,
     ];
-    say::text(b"ticket");
-    say::number(team as u64);
-    tell_phase(ticket.phase());
-    say::numbers(&counts);
-    tell_targets(targets, team, ticket.n);
+    say::text(stdout, b"ticket");
+    say::number(stdout, team as u64);
+    tell_phase(stdout, ticket.phase());
+    say::numbers(stdout, &counts);
+    tell_targets(stdout, targets, team, ticket.n);
 }
 
-fn tell_tickets(tickets: Tickets) {
+fn tell_tickets(stdout: Stdout, tickets: Tickets) {
     let mut team: usize = 0;
     while team < Limits::TEAMS {
         let ticket = tickets.slots[team];
-        tell_ticket(&tickets.targets, team, ticket);
+        tell_ticket(stdout, &tickets.targets, team, ticket);
         team += 1;
     }
 }
 
-fn tell_reply(returned: usize, out: &[u8]) {
-    say::text(b"returns");
-    say::number(returned as u64);
-    say::text(b" :");
-    say::bytes(out);
-    say::end();
+fn tell_reply(stdout: Stdout, returned: usize, out: &[u8]) {
+    say::text(stdout, b"returns");
+    say::number(stdout, returned as u64);
+    say::text(stdout, b" :");
+    say::bytes(stdout, out);
+    say::end(stdout);
 }
 
 // A call on so many of the words, with an output of so many of the bytes.
-fn call_on(words: &mut [u64], tickets: Tickets, space: &mut [u8], given: &[u8]) -> Tickets
+fn call_on(
+    stdout: Stdout,
+    words: &mut [u64],
+    tickets: Tickets,
+    space: &mut [u8],
+    given: &[u8],
+) -> Tickets
     requires { 10 ≤ length given.now }
 {
     let many = at_most(read16(given, Place::BOOK) as usize, words.len());
@@ -189,11 +195,11 @@ fn call_on(words: &mut [u64], tickets: Tickets, space: &mut [u8], given: &[u8]) 
     let ranks = legs::fixed_ranks();
     let reply = book::call(book, tickets, &ranks, &given[Place::HEAD..], out);
     let after = reply.tickets;
-    tell_reply(reply.written, out);
+    tell_reply(stdout, reply.written, out);
     after
 }
 
-fn called(state: State, given: &[u8]) -> State
+fn called(stdout: Stdout, state: State, given: &[u8]) -> State
     requires { 10 ≤ length given.now }
 {
     let before = state.words;
@@ -201,25 +207,25 @@ fn called(state: State, given: &[u8]) -> State
     let tickets = state.tickets;
     let fill = read16(given, Place::NUMBER) % Bits::BYTE;
     let mut space = [fill as u8; Room::OUTPUT];
-    let after = call_on(&mut words, tickets, &mut space, given);
-    tell_words(&before, &words);
-    tell_tickets(after);
+    let after = call_on(stdout, &mut words, tickets, &mut space, given);
+    tell_words(stdout, &before, &words);
+    tell_tickets(stdout, after);
     State {
         words: words,
         tickets: after,
     }
 }
 
-fn tell_clino(clino: i16) {
+fn tell_clino(stdout: Stdout, clino: i16) {
     if clino < 0 {
-        say::text(b" -");
-        say::plain((0 - clino as i32) as u64);
+        say::text(stdout, b" -");
+        say::plain(stdout, (0 - clino as i32) as u64);
         return;
     }
-    say::number(clino as u64);
+    say::number(stdout, clino as u64);
 }
 
-fn tell_leg(leg: Leg) {
+fn tell_leg(stdout: Stdout, leg: Leg) {
     let numbers = [
         leg.passage as u64,
         leg.stations.from as u64,
@@ -227,35 +233,35 @@ fn tell_leg(leg: Leg) {
         leg.measure.distance as u64,
         leg.measure.compass as u64,
     ];
-    say::text(b"leg");
-    say::numbers(&numbers);
-    tell_clino(leg.measure.clino);
-    say::end();
+    say::text(stdout, b"leg");
+    say::numbers(stdout, &numbers);
+    tell_clino(stdout, leg.measure.clino);
+    say::end(stdout);
 }
 
-fn read(carried: &[u8]) {
+fn read(stdout: Stdout, carried: &[u8]) {
     if carried.len() < Carried::READING {
         return;
     }
     let reading = legs::read_leg(read64(carried, 0), read64(carried, Carried::NUMBER));
     match reading {
-        Reading::NoLeg => say::text(b"no leg\n"),
-        Reading::Is(leg) => tell_leg(leg),
+        Reading::NoLeg => say::text(stdout, b"no leg\n"),
+        Reading::Is(leg) => tell_leg(stdout, leg),
     }
 }
 
 // What is written and leaves all as it is.
-fn tell_other(tag: u16, carried: &[u8]) {
+fn tell_other(stdout: Stdout, tag: u16, carried: &[u8]) {
     if tag == Tag::TITLE {
-        say::text(carried);
+        say::text(stdout, carried);
     }
     if tag == Tag::READ {
-        read(carried);
+        read(stdout, carried);
     }
 }
 
 // One call; a tag that isn't known is passed over.
-fn dispatch(state: State, given: &[u8]) -> State
+fn dispatch(stdout: Stdout, state: State, given: &[u8]) -> State
     requires { 10 ≤ length given.now }
 {
     let tag = read16(given, Place::TAG);
@@ -274,13 +280,13 @@ fn dispatch(state: State, given: &[u8]) -> State
         return with_target(state, number, number_in(carried));
     }
     if tag == Tag::FRAME {
-        return called(state, given);
+        return called(stdout, state, given);
     }
-    tell_other(tag, carried);
+    tell_other(stdout, tag, carried);
     state
 }
 
-fn dispatch_all(input: &[u8]) {
+fn dispatch_all(stdout: Stdout, input: &[u8]) {
     let mut state = fresh();
     let mut at: usize = 0;
     while at < input.len() {
@@ -290,22 +296,22 @@ fn dispatch_all(input: &[u8]) {
             return;
         }
         let end = at + count;
-        state = dispatch(state, &input[at..end]);
+        state = dispatch(stdout, state, &input[at..end]);
         at = end;
     }
 }
 
-fn dispatch_input(buffer: &mut [u8]) {
-    let have = io::read_full(STDIN_FILENO, buffer);
-    dispatch_all(&buffer[0..have]);
+fn dispatch_input(stdin: Stdin, stdout: Stdout, buffer: &mut [u8]) {
+    let have = desk::read_full(stdin, buffer);
+    dispatch_all(stdout, &buffer[0..have]);
 }
 
 // Takes the buffer as an array, so that the length of a million zeros is known by their type and is not counted.
-fn dispatch_with(buffer: &mut [u8; Room::INPUT]) {
-    dispatch_input(buffer);
+fn dispatch_with(stdin: Stdin, stdout: Stdout, buffer: &mut [u8; Room::INPUT]) {
+    dispatch_input(stdin, stdout, buffer);
 }
 
-fn main() {
+fn main(rt: HostRuntime) {
     let mut buffer = [0u8; Room::INPUT];
-    dispatch_with(&mut buffer);
+    dispatch_with(rt.stdin(), rt.stdout(), &mut buffer);
 }

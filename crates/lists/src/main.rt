@@ -21,7 +21,7 @@ ghost use Rattle.words.specs.Words.{words_in_store};
 use calls::Outcome;
 use desk::{Place, Room, at_most, say};
 use frames::numbers::{Bits, read16};
-use libc::STDIN_FILENO;
+use std::io::{Stdin, Stdout};
 use tickets::Tickets;
 use words::Limits;
 
@@ -97,7 +97,7 @@ fn digest_of(words: &[u64]) -> u64 {
 }
 
 // A digest of each so many words as a book has.
-fn tell_digests(words: &[u64]) {
+fn tell_digests(stdout: Stdout, words: &[u64]) {
     let mut at: usize = 0;
     while at < words.len() {
         let left = words.len() - at;
@@ -105,43 +105,44 @@ fn tell_digests(words: &[u64]) {
         let end = at + count;
         let part = &words[at..end];
         let digest = digest_of(part);
-        say::number(digest);
+        say::number(stdout, digest);
         at += Limits::WORDS;
     }
-    say::end();
+    say::end(stdout);
 }
 
-fn tell_flag(flag: bool) {
+fn tell_flag(stdout: Stdout, flag: bool) {
     if flag {
-        say::number(1);
+        say::number(stdout, 1);
         return;
     }
-    say::number(0);
+    say::number(stdout, 0);
 }
 
-fn tell_flags(filled: &[bool; Limits::SHELVES]) {
+fn tell_flags(stdout: Stdout, filled: &[bool; Limits::SHELVES]) {
     let mut shelf: usize = 0;
     while shelf < Limits::SHELVES {
-        tell_flag(filled[shelf]);
+        tell_flag(stdout, filled[shelf]);
         shelf += 1;
     }
-    say::end();
+    say::end(stdout);
 }
 
 // The first so many ranks, which are in force.
-fn tell_ranks(ranks: &[u16], ranked: usize)
+fn tell_ranks(stdout: Stdout, ranks: &[u16], ranked: usize)
     requires { ranked ≤ length ranks.now }
 {
-    say::number(ranked as u64);
+    say::number(stdout, ranked as u64);
     let mut k: usize = 0;
     while k < ranked {
-        say::number(ranks[k] as u64);
+        say::number(stdout, ranks[k] as u64);
         k += 1;
     }
-    say::end();
+    say::end(stdout);
 }
 
 fn tell(
+    stdout: Stdout,
     words: &[u64],
     store: &[u64],
     filled: &[bool; Limits::SHELVES],
@@ -151,17 +152,17 @@ fn tell(
 )
     requires { ranked ≤ length ranks.now }
 {
-    say::text(b"book");
-    tell_digests(words);
-    say::text(b"store");
-    tell_digests(store);
-    say::text(b"filled");
-    tell_flags(filled);
-    say::text(b"output");
-    say::bytes(out);
-    say::end();
-    say::text(b"ranks");
-    tell_ranks(ranks, ranked);
+    say::text(stdout, b"book");
+    tell_digests(stdout, words);
+    say::text(stdout, b"store");
+    tell_digests(stdout, store);
+    say::text(stdout, b"filled");
+    tell_flags(stdout, filled);
+    say::text(stdout, b"output");
+    say::bytes(stdout, out);
+    say::end(stdout);
+    say::text(stdout, b"ranks");
+    tell_ranks(stdout, ranks, ranked);
 }
 
 fn set_words(words: &mut [u64], number: u16)
@@ -215,14 +216,15 @@ fn begin(
     }
 }
 
-fn tell_reply(returned: usize, out: &[u8]) {
+fn tell_reply(stdout: Stdout, returned: usize, out: &[u8]) {
     let count = at_most(returned, out.len());
-    say::plain(returned as u64);
-    say::bytes(&out[0..count]);
-    say::end();
+    say::plain(stdout, returned as u64);
+    say::bytes(stdout, &out[0..count]);
+    say::end(stdout);
 }
 
 fn call(
+    stdout: Stdout,
     words: &mut [u64],
     tickets: Tickets,
     ranks: &[u16],
@@ -239,23 +241,24 @@ fn call(
     let frame = &given[Place::HEAD..];
     let reply = book::call(book, tickets, &ranks[0..ranked], frame, out);
     let after = reply.tickets;
-    tell_reply(reply.written, out);
+    tell_reply(stdout, reply.written, out);
     after
 }
 
-fn tell_number(number: u16) {
-    say::plain(number as u64);
-    say::end();
+fn tell_number(stdout: Stdout, number: u16) {
+    say::plain(stdout, number as u64);
+    say::end(stdout);
 }
 
-fn tell_outcome(outcome: Outcome) {
+fn tell_outcome(stdout: Stdout, outcome: Outcome) {
     match outcome {
-        Outcome::Done => tell_number(0),
-        Outcome::Refused(number) => tell_number(number),
+        Outcome::Done => tell_number(stdout, 0),
+        Outcome::Refused(number) => tell_number(stdout, number),
     }
 }
 
 fn fill(
+    stdout: Stdout,
     words: &[u64],
     tickets: Tickets,
     space: &mut [u64],
@@ -269,10 +272,11 @@ fn fill(
     let shelf = read16(given, Place::NUMBER);
     let store = &mut space[0..count];
     let outcome = shelves::fill(&words[0..many], tickets, store, filled, shelf as usize);
-    tell_outcome(outcome);
+    tell_outcome(stdout, outcome);
 }
 
 fn come_back(
+    stdout: Stdout,
     words: &mut [u64],
     tickets: Tickets,
     space: &[u64],
@@ -286,7 +290,7 @@ fn come_back(
     let shelf = read16(given, Place::NUMBER);
     let book = &mut words[0..many];
     let outcome = shelves::come_back(book, tickets, &space[0..count], filled, shelf as usize);
-    tell_outcome(outcome);
+    tell_outcome(stdout, outcome);
 }
 
 // The ranks that are carried, written over the first ones; how many.
@@ -323,7 +327,14 @@ fn load_first(
 }
 
 // How many ranks are in force after a load of those carried.
-fn load(words: &[u64], tickets: Tickets, ranks: &mut [u16], ranked: usize, given: &[u8]) -> usize
+fn load(
+    stdout: Stdout,
+    words: &[u64],
+    tickets: Tickets,
+    ranks: &mut [u16],
+    ranked: usize,
+    given: &[u8],
+) -> usize
     requires { (10 ≤ length given.now) × (ranked ≤ length ranks.old) × (32 ≤ length ranks.old) }
     ensures { result ≤ length ranks.old }
 {
@@ -332,7 +343,7 @@ fn load(words: &[u64], tickets: Tickets, ranks: &mut [u16], ranked: usize, given
     let count = read_ranks(&mut carried, given);
     let mut table = [0u16; Table::RANKS];
     let outcome = load_first(&words[0..many], tickets, ranks, &mut table, &carried, count);
-    tell_outcome(outcome);
+    tell_outcome(stdout, outcome);
     match outcome {
         Outcome::Done => Table::RANKS,
         Outcome::Refused(number) => ranked,
@@ -341,6 +352,7 @@ fn load(words: &[u64], tickets: Tickets, ranks: &mut [u16], ranked: usize, given
 
 // A call that is lent no ranks.
 fn dispatch_other(
+    stdout: Stdout,
     words: &mut [u64; Room::WORDS],
     tickets: Tickets,
     store: &mut [u64; Lent::STORE],
@@ -351,15 +363,16 @@ fn dispatch_other(
     requires { 10 ≤ length given.now }
 {
     if tag == Tag::FILL {
-        fill(words, tickets, store, filled, given);
+        fill(stdout, words, tickets, store, filled, given);
     }
     if tag == Tag::COME_BACK {
-        come_back(words, tickets, store, filled, given);
+        come_back(stdout, words, tickets, store, filled, given);
     }
 }
 
 // How many ranks are in force after a call that leaves the tickets.
 fn ranked_after(
+    stdout: Stdout,
     words: &[u64],
     tickets: Tickets,
     ranks: &mut [u16],
@@ -371,7 +384,7 @@ fn ranked_after(
     ensures { result ≤ length ranks.old }
 {
     if tag == Tag::LOAD {
-        return load(words, tickets, ranks, ranked, given);
+        return load(stdout, words, tickets, ranks, ranked, given);
     }
     if tag == Tag::LEND {
         return read_ranks(ranks, given);
@@ -381,6 +394,7 @@ fn ranked_after(
 
 // One call of the list; a tag that isn't known is passed over.
 fn dispatch(
+    stdout: Stdout,
     words: &mut [u64; Room::WORDS],
     state: State,
     store: &mut [u64; Lent::STORE],
@@ -399,17 +413,17 @@ fn dispatch(
         return begin(words, store, filled, ranks, read16(given, Place::NUMBER));
     }
     if tag == Tag::FRAME {
-        let after = call(words, tickets, ranks, ranked, given, out);
+        let after = call(stdout, words, tickets, ranks, ranked, given, out);
         return State {
             tickets: after,
             ranked: ranked,
         };
     }
     if tag == Tag::TELL {
-        tell(words, store, filled, ranks, ranked, out);
+        tell(stdout, words, store, filled, ranks, ranked, out);
     }
-    dispatch_other(words, tickets, store, filled, tag, given);
-    let left = ranked_after(words, tickets, ranks, ranked, tag, given);
+    dispatch_other(stdout, words, tickets, store, filled, tag, given);
+    let left = ranked_after(stdout, words, tickets, ranks, ranked, tag, given);
     State {
         tickets: tickets,
         ranked: left,
@@ -417,6 +431,7 @@ fn dispatch(
 }
 
 fn dispatch_all(
+    stdout: Stdout,
     words: &mut [u64; Room::WORDS],
     store: &mut [u64; Lent::STORE],
     filled: &mut [bool; Limits::SHELVES],
@@ -437,12 +452,14 @@ fn dispatch_all(
         }
         let end = at + count;
         let given = &input[at..end];
-        state = dispatch(words, state, store, filled, ranks, out, given);
+        state = dispatch(stdout, words, state, store, filled, ranks, out, given);
         at = end;
     }
 }
 
 fn dispatch_input(
+    stdin: Stdin,
+    stdout: Stdout,
     words: &mut [u64; Room::WORDS],
     store: &mut [u64; Lent::STORE],
     filled: &mut [bool; Limits::SHELVES],
@@ -450,12 +467,14 @@ fn dispatch_input(
     out: &mut [u8; Room::OUTPUT],
     buffer: &mut [u8],
 ) {
-    let have = io::read_full(STDIN_FILENO, buffer);
-    dispatch_all(words, store, filled, ranks, out, &buffer[0..have]);
+    let have = desk::read_full(stdin, buffer);
+    dispatch_all(stdout, words, store, filled, ranks, out, &buffer[0..have]);
 }
 
 // Takes the buffer as an array, so that the length of a million zeros is known by their type and is not counted.
 fn dispatch_with(
+    stdin: Stdin,
+    stdout: Stdout,
     words: &mut [u64; Room::WORDS],
     store: &mut [u64; Lent::STORE],
     filled: &mut [bool; Limits::SHELVES],
@@ -463,10 +482,10 @@ fn dispatch_with(
     out: &mut [u8; Room::OUTPUT],
     buffer: &mut [u8; Room::INPUT],
 ) {
-    dispatch_input(words, store, filled, ranks, out, buffer);
+    dispatch_input(stdin, stdout, words, store, filled, ranks, out, buffer);
 }
 
-fn main() {
+fn main(rt: HostRuntime) {
     let mut words = [0u64; Room::WORDS];
     let mut store = [0u64; Lent::STORE];
     let mut filled = [false; Limits::SHELVES];
@@ -474,6 +493,8 @@ fn main() {
     let mut out = [0u8; Room::OUTPUT];
     let mut buffer = [0u8; Room::INPUT];
     dispatch_with(
+        rt.stdin(),
+        rt.stdout(),
         &mut words,
         &mut store,
         &mut filled,

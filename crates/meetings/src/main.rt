@@ -14,8 +14,8 @@ ghost use Rattle.std.specs.Prelude.{◌≤◌, length};
 
 use desk::{Place, Room, at_most, say};
 use frames::numbers::read16;
-use libc::STDIN_FILENO;
 use meeting::Met;
+use std::io::{Stdin, Stdout};
 
 #[derive(Drop)]
 struct Output {}
@@ -51,31 +51,31 @@ fn is_former(words: &[u64]) -> bool {
 }
 
 // The end of a line: what stands in these words is as it was, or not.
-fn tell_others(others: &[u64]) {
+fn tell_others(stdout: Stdout, others: &[u64]) {
     if !is_former(others) {
-        say::text(b" spoiled");
+        say::text(stdout, b" spoiled");
     }
-    say::end();
+    say::end(stdout);
 }
 
-fn tell_written(space: &[u64], written: usize) {
+fn tell_written(stdout: Stdout, space: &[u64], written: usize) {
     let count = at_most(written, space.len());
-    say::text(b"written");
-    say::number(written as u64);
-    say::numbers(&space[0..count]);
-    tell_others(&space[count..]);
+    say::text(stdout, b"written");
+    say::number(stdout, written as u64);
+    say::numbers(stdout, &space[0..count]);
+    tell_others(stdout, &space[count..]);
 }
 
-fn tell_refused(space: &[u64], number: u16) {
-    say::text(b"refused");
-    say::number(number as u64);
-    tell_others(space);
+fn tell_refused(stdout: Stdout, space: &[u64], number: u16) {
+    say::text(stdout, b"refused");
+    say::number(stdout, number as u64);
+    tell_others(stdout, space);
 }
 
-fn tell(met: Met, space: &[u64]) {
+fn tell(stdout: Stdout, met: Met, space: &[u64]) {
     match met {
-        Met::Written(written) => tell_written(space, written),
-        Met::Refused(number) => tell_refused(space, number),
+        Met::Written(written) => tell_written(stdout, space, written),
+        Met::Refused(number) => tell_refused(stdout, space, number),
     }
 }
 
@@ -89,15 +89,20 @@ fn meet_lent(words: &[u64], space: &mut [u64], given: &[u8]) -> Met
     meet::meet(&words[0..many], station, out)
 }
 
-fn list_station(words: &[u64], space: &mut [u64], given: &[u8])
+fn list_station(stdout: Stdout, words: &[u64], space: &mut [u64], given: &[u8])
     requires { 10 ≤ length given.now }
 {
     desk::fill_words(space, Output::FORMER);
     let met = meet_lent(words, space, given);
-    tell(met, space);
+    tell(stdout, met, space);
 }
 
-fn dispatch(words: &mut [u64; Room::WORDS], space: &mut [u64; Output::WORDS], given: &[u8])
+fn dispatch(
+    stdout: Stdout,
+    words: &mut [u64; Room::WORDS],
+    space: &mut [u64; Output::WORDS],
+    given: &[u8],
+)
     requires { 10 ≤ length given.now }
 {
     let tag = read16(given, Place::TAG);
@@ -109,11 +114,16 @@ fn dispatch(words: &mut [u64; Room::WORDS], space: &mut [u64; Output::WORDS], gi
         desk::set_words(words, &given[Place::HEAD..]);
     }
     if tag == Tag::MEET {
-        list_station(words, space, given);
+        list_station(stdout, words, space, given);
     }
 }
 
-fn dispatch_all(words: &mut [u64; Room::WORDS], space: &mut [u64; Output::WORDS], input: &[u8]) {
+fn dispatch_all(
+    stdout: Stdout,
+    words: &mut [u64; Room::WORDS],
+    space: &mut [u64; Output::WORDS],
+    input: &[u8],
+) {
     let mut at: usize = 0;
     while at < input.len() {
         let rest = &input[at..];
@@ -122,32 +132,36 @@ fn dispatch_all(words: &mut [u64; Room::WORDS], space: &mut [u64; Output::WORDS]
             return;
         }
         let end = at + count;
-        dispatch(words, space, &input[at..end]);
+        dispatch(stdout, words, space, &input[at..end]);
         at = end;
     }
 }
 
 fn dispatch_input(
+    stdin: Stdin,
+    stdout: Stdout,
     words: &mut [u64; Room::WORDS],
     space: &mut [u64; Output::WORDS],
     buffer: &mut [u8],
 ) {
-    let have = io::read_full(STDIN_FILENO, buffer);
-    dispatch_all(words, space, &buffer[0..have]);
+    let have = desk::read_full(stdin, buffer);
+    dispatch_all(stdout, words, space, &buffer[0..have]);
 }
 
 // Takes the buffer as an array, so that the length of a million zeros is known by their type and is not counted.
 fn dispatch_with(
+    stdin: Stdin,
+    stdout: Stdout,
     words: &mut [u64; Room::WORDS],
     space: &mut [u64; Output::WORDS],
     buffer: &mut [u8; Room::INPUT],
 ) {
-    dispatch_input(words, space, buffer);
+    dispatch_input(stdin, stdout, words, space, buffer);
 }
 
-fn main() {
+fn main(rt: HostRuntime) {
     let mut words = [0u64; Room::WORDS];
     let mut space = [0u64; Output::WORDS];
     let mut buffer = [0u8; Room::INPUT];
-    dispatch_with(&mut words, &mut space, &mut buffer);
+    dispatch_with(rt.stdin(), rt.stdout(), &mut words, &mut space, &mut buffer);
 }

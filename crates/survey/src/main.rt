@@ -8,8 +8,8 @@ ghost use Rattle.frames.specs.Fields.{longest_frame};
 ghost use Rattle.calls.specs.Stream.{Roomy};
 
 use frames::Answer;
-use libc::{STDIN_FILENO, STDOUT_FILENO};
 use serve::Served;
+use std::io::{Print, Read, Stdin, Stdout};
 use tickets::Tickets;
 use words::Limits;
 
@@ -26,25 +26,29 @@ impl Buffers {
     const OUTPUT: usize = Buffers::RATIO * Buffers::INPUT + Answer::LONGEST;
 }
 
-fn write_front(out: &[u8], count: usize)
+// A write that fails is passed over.
+fn write_front(stdout: Stdout, out: &[u8], count: usize)
     requires { count ≤ length out.now }
 {
-    io::write_all(STDOUT_FILENO, &out[0..count]);
+    let _ = stdout.write_all(&out[0..count]);
 }
 
 // Reads what there is behind the first `have` bytes, which stay; how many came. There is room for one at least, so that
 // 0 is the end of the input or a read that failed.
-fn read_more(buffer: &mut [u8], have: usize) -> usize
+fn read_more(mut stdin: Stdin, buffer: &mut [u8], have: usize) -> usize
     requires { have < length buffer.old }
     ensures { (have + result ≤ length buffer.old) × (take have buffer.new ≡ take have buffer.old) }
 {
-    let rest = &mut buffer[have..];
-    let got = libc::read(STDIN_FILENO, rest);
-    io::count(got, rest)
+    match stdin.read(&mut buffer[have..]) {
+        Ok(got) => got,
+        Err(_) => 0,
+    }
 }
 
 // One read, all that is done after it, one write.
 fn serve_some(
+    stdin: Stdin,
+    stdout: Stdout,
     book: &mut [u64],
     tickets: Tickets,
     ranks: &[u16],
@@ -55,14 +59,21 @@ fn serve_some(
     requires { (have < longest_frame) × (longest_frame ≤ length buffer.old) × (length book.old ≡ words_in_book) × Accepted ranks.now × Roomy buffer.old out.old }
     ensures { result.have < longest_frame }
 {
-    let got = read_more(buffer, have);
+    let got = read_more(stdin, buffer, have);
     let served = serve::after_read(book, tickets, ranks, buffer, have, got, out);
-    write_front(out, served.written);
+    write_front(stdout, out, served.written);
     served
 }
 
 // Turn after turn, to the end of the input or a length field above 62.
-fn serve_all(book: &mut [u64], ranks: &[u16], buffer: &mut [u8], out: &mut [u8])
+fn serve_all(
+    stdin: Stdin,
+    stdout: Stdout,
+    book: &mut [u64],
+    ranks: &[u16],
+    buffer: &mut [u8],
+    out: &mut [u8],
+)
     requires { (longest_frame ≤ length buffer.old) × (length book.old ≡ words_in_book) × Accepted ranks.now × Roomy buffer.old out.old }
 {
     let mut tickets = Tickets::fresh();
@@ -70,7 +81,7 @@ fn serve_all(book: &mut [u64], ranks: &[u16], buffer: &mut [u8], out: &mut [u8])
     let mut turns: u64 = 18446744073709551615;
     while 0 < turns {
         turns -= 1;
-        let served = serve_some(book, tickets, ranks, buffer, have, out);
+        let served = serve_some(stdin, stdout, book, tickets, ranks, buffer, have, out);
         if !served.on {
             return;
         }
@@ -79,10 +90,17 @@ fn serve_all(book: &mut [u64], ranks: &[u16], buffer: &mut [u8], out: &mut [u8])
     }
 }
 
-fn main() {
+fn main(rt: HostRuntime) {
     let mut book = [0u64; Limits::WORDS];
     let mut buffer = [0u8; Buffers::INPUT];
     let mut out = [0u8; Buffers::OUTPUT];
     let ranks = legs::fixed_ranks();
-    serve_all(&mut book, &ranks, &mut buffer, &mut out);
+    serve_all(
+        rt.stdin(),
+        rt.stdout(),
+        &mut book,
+        &ranks,
+        &mut buffer,
+        &mut out,
+    );
 }

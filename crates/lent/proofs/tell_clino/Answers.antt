@@ -1,7 +1,6 @@
 -- `lent::tell_clino` meets its contract: the magnitude of a clino is a number without sign.
 use mir.Facts.{to_z-of_z}
 use Rattle.lent.proofs.Signed.{wide, below, above}
-use borrow.Author.Rules.{rules}
 use Rattle.lent.proofs.tell_clino.Goals as goal
 
 pub overflow_cast-clino : goal.overflow_cast-clino

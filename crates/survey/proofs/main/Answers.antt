@@ -6,11 +6,12 @@ use mathlib.Core.Bool.{true}
 use borrow.Author.Tests.{leb-true}
 use lib.Dec.{leb}
 use lib.ListN.{length-replicate}
+use Rattle.words.specs.Words.{words_in_book}
 use Rattle.legs.specs.Positions.{Accepted}
 use Rattle.legs.proofs.Ranks.{fixed_ranks_are_permutation}
 use Rattle.frames.specs.Fields.{longest_frame}
 use Rattle.calls.specs.Stream.{room_for}
-use borrow.Author.Rules.{rules}
+use Rattle.survey.specs.declared.TheConstants.Buffers.{INPUT, OUTPUT}
 use Rattle.survey.proofs.main.Goals as goal
 
 -- Room in buffers, of the lengths `long` and `wide`, by the sizes that they are made with.
@@ -26,6 +27,7 @@ slice_bounds-serve_all-end-4 c = sym (length-replicate {A = ℕ} _ 0)
 
 pub serve_all-requires : goal.serve_all-requires
 serve_all-requires c =
-    let input = slice-aggregate-serve-all-3 c in
+    let input = sym (length-replicate {A = ℕ} INPUT 0) in
+    let output = sym (length-replicate {A = ℕ} OUTPUT 0) in
     let ranked = subst Accepted (sym c.fixed_ranks-ranks.ensures) fixed_ranks_are_permutation in
-    (holds_a_frame input refl, sym (slice-aggregate-serve-all c), ranked, holds_answers input (slice-aggregate-serve-all-4 c) refl)
+    (holds_a_frame input refl, sym (length-replicate {A = ℕ} words_in_book 0), ranked, holds_answers input output refl)
