@@ -50,7 +50,7 @@ miscounted = first_leg 1 1 that_measure
 abbrev pub standing : Edit → Phase → ℕ → Tickets
 standing edit phase claimed = with_ticket fresh_tickets 0 (advanced (opened_ticket fixed_ranks edit) phase claimed 0)
 
--- granted-succeed: one always Stale, though the add succeeds.
+-- granted_succeed: one always Stale, though the add succeeds.
 abbrev pub verdict_number : Verdict → ℕ
 verdict_number granted = 0
 verdict_number stale = 1
@@ -59,12 +59,12 @@ always_stale : Linearizable (running fresh_book fresh_tickets (edited adding (St
 unfolding every_run
 always_stale right = let number : ◌≡◌ {A = ℕ} 1 0 = ap verdict_number (right.granted_succeed [] [] stale adding refl) in omega arith
 
--- looks-agree: a look that shows a mark.
+-- looks_agree: a look that shows a mark.
 shows_mark : Linearizable (running (2 ^ 63 ∷ replicate 4095 0) fresh_tickets (heard_as (Look 0) (Answer.Look (Value (2 ^ 63))) ∷ [])) → ⊥
 unfolding every_run
 shows_mark right = let shown : ◌≡◌ {A = ℕ} (2 ^ 63) 0 = right.looks_agree [] [] 0 (2 ^ 63) refl in omega arith
 
--- views-agree: a view that shows what its word never was.
+-- views_agree: a view that shows what its word never was.
 abbrev seeing : List Heard
 seeing =
     heard_as (View 0 1 (2 ∷ [])) (Answer.Standing 1) ∷ heard_as (Step 0) (Answer.Step (Claimed 1))
@@ -76,7 +76,7 @@ shows_another_value right =
     let shown : ◌≡◌ {A = ℕ} 7 0 = ap (λ values. get_or values 0 9) (right.views_agree [] [] (2 ∷ []) (7 ∷ []) refl) in
     omega arith
 
--- words-agree: one that gives back the new value. Nothing is held, and word 0 is 1.
+-- words_agree: one that gives back the new value. Nothing is held, and word 0 is 1.
 abbrev returning : List Heard
 returning = edited miscounted (Claimed 1 ∷ Found 1 ∷ Stale 1 3 ∷ [])
 
@@ -98,7 +98,7 @@ reports_only : Linearizable (running (2 ^ 63 ∷ replicate 4095 0) (standing add
 unfolding every_run
 reports_only right = let marked : ◌≡◌ {A = ℕ} 0 (2 ^ 63) = right.held_marked 0 1 refl in omega arith
 
--- words-agree stops it too, once it is granted: word 1 is to count a leg.
+-- words_agree stops it too, once it is granted: word 1 is to count a leg.
 abbrev granting : List Heard
 granting = edited adding (Claimed 1 ∷ Claimed 2 ∷ Claimed 3 ∷ Claimed 4 ∷ Claimed 5 ∷ Put 1 ∷ Put 2 ∷ Put 3 ∷ Put 4 ∷ Granted 10 ∷ [])
 
