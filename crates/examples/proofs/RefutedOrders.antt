@@ -88,12 +88,12 @@ gives_back_new : Linearizable (running (1 ∷ replicate 4095 0) fresh_tickets re
 unfolding every_run
 gives_back_new right = let left : ◌≡◌ {A = ℕ} 1 0 = right.words_agree 0 (omega arith) none_holds in omega arith
 
--- counts-add-up: one that claims whatever stands there. One add is granted, and no leg is in the plain book.
+-- counts_add_up: one that claims whatever stands there. One add is granted, and no leg is in the plain book.
 claims_anything : Linearizable (running fresh_book (standing miscounted Putting 5) (edited miscounted (map Claimed (1 ∷ 2 ∷ 3 ∷ 4 ∷ 5 ∷ [])))) → ⊥
 unfolding every_run
 claims_anything right = let counted : ◌≡◌ {A = ℕ} 0 1 = right.counts_add_up in omega arith
 
--- held-marked: one that claims the first word and merely reports the rest. Word 1 is held, and not marked.
+-- held_marked: one that claims the first word and merely reports the rest. Word 1 is held, and not marked.
 reports_only : Linearizable (running (2 ^ 63 ∷ replicate 4095 0) (standing adding Claiming 2) (edited adding (Claimed 1 ∷ Claimed 2 ∷ []))) → ⊥
 unfolding every_run
 reports_only right = let marked : ◌≡◌ {A = ℕ} 0 (2 ^ 63) = right.held_marked 0 1 refl in omega arith
@@ -110,7 +110,7 @@ reports_all : Linearizable (running (1 ∷ replicate 4095 0) fresh_tickets grant
 unfolding every_run
 reports_all right = let left : ◌≡◌ {A = ℕ} 0 1 = right.words_agree 1 (omega arith) none_left in omega arith
 
--- plain-sound: one that lets through a leg from a station to itself.
+-- plain_sound: one that lets through a leg from a station to itself.
 abbrev to_itself : Edit
 to_itself = Add (record { passage = 0; leg = 1; newest = 0; count = 0; stations = record { from = 4; to = 4 }; measure = that_measure })
 

@@ -17,7 +17,7 @@ use Rattle.calls.proofs.ExampleCalls.{every_run, heard_as}
 use Rattle.calls.proofs.RefusalOrder.{ten_targets}
 use Rattle.examples.proofs.RefutedOrders.{running, fresh_book, edited, adding, miscounted, standing, verdict_number}
 
--- last-answers: a ticket that ends and was never decided;
+-- last_answers: a ticket that ends and was never decided;
 never_decided : Linearizable (running fresh_book fresh_tickets (edited adding (Granted 1 ∷ []))) → ⊥
 unfolding every_run
 never_decided right = let made : ◌≡◌ {A = ℕ} 0 1 = ap length right.last_answers.0.once in omega arith
@@ -44,7 +44,7 @@ names_another_word : Linearizable (running fresh_book fresh_tickets (edited misc
 unfolding every_run
 names_another_word right = let named : ◌≡◌ {A = ℕ} 64 1 = right.last_answers.0.fits.1.named in omega arith
 
--- decided-once: a ticket decided again while it stands.
+-- decided_once: a ticket decided again while it stands.
 decided_again : Linearizable (running fresh_book (standing adding Putting 5) (edited adding (Claimed 5 ∷ Claimed 5 ∷ []))) → ⊥
 unfolding every_run
 decided_again right = elim (right.decided_once 0) [
@@ -52,17 +52,17 @@ decided_again right = elim (right.decided_once 0) [
   | inr decided ↦ let made : ◌≡◌ {A = ℕ} 2 1 = ap length decided.1 in omega arith
 ]
 
--- stays-whole: one that loses a word of the book.
+-- stays_whole: one that loses a word of the book.
 loses_a_word : Linearizable (running (replicate 4095 0) fresh_tickets []) → ⊥
 unfolding every_run
 loses_a_word right = true≢false right.stays_whole
 
--- stays-well-made: one that leaves a ticket of ten targets.
+-- stays_well_made: one that leaves a ticket of ten targets.
 ten_targets_lem : Linearizable (running fresh_book (with_ticket fresh_tickets 0 ten_targets) []) → ⊥
 unfolding every_run
 ten_targets_lem right = true≢false (right.stays_well_made 0)
 
--- tries-add-up: tries invented; and a ticket granted after two steps.
+-- tries_add_up: tries invented; and a ticket granted after two steps.
 invents_tries : Linearizable (running fresh_book fresh_tickets (edited miscounted (Claimed 1 ∷ Found 1 ∷ Stale 1 9 ∷ []))) → ⊥
 unfolding every_run
 invents_tries right = let counted : ◌≡◌ {A = ℕ} 9 3 = right.tries_add_up.0.0 in omega arith
@@ -71,7 +71,7 @@ granted_in_two : Linearizable (running fresh_book fresh_tickets (edited adding (
 unfolding every_run
 granted_in_two right = let counted : ◌≡◌ {A = ℕ} 2 10 = right.tries_add_up.0.1 in omega arith
 
--- in-turn: Standing over a ticket; and Granted to a view.
+-- in_turn: Standing over a ticket; and Granted to a view.
 stands_twice : Linearizable (running fresh_book (standing adding Claiming 0) (heard_as (Open 0 adding) (Answer.Standing 5) ∷ edited adding [])) → ⊥
 unfolding every_run
 stands_twice right = let counted : ◌≡◌ {A = ℕ} 1 0 = right.in_turn in omega arith
@@ -81,7 +81,7 @@ grants_a_view : Linearizable (running fresh_book fresh_tickets
 unfolding every_run
 grants_a_view right = let counted : ◌≡◌ {A = ℕ} 1 0 = right.in_turn in omega arith
 
--- noted-stand: one that forgets the ticket it opened; and one that keeps a ticket after its last answer.
+-- noted_stand: one that forgets the ticket it opened; and one that keeps a ticket after its last answer.
 forgets_the_ticket : Linearizable (running fresh_book fresh_tickets (edited adding [])) → ⊥
 unfolding every_run
 forgets_the_ticket right = false≢true (right.noted_stand 0)

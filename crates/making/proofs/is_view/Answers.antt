@@ -1,4 +1,4 @@
--- `making::is_view_lem` meets its contract: kind by kind.
+-- `making::is_view` meets its contract: kind by kind.
 use mathlib.Core.Path.{sym, ap, ◌∙◌}
 use Rattle.tickets.specs.Tickets.{is_view}
 use Rattle.tickets.specs.Table.{phase_by}
