@@ -79,8 +79,7 @@ pub enum StepAnswer {
     Seen(Values),
 }
 
-// What a view has seen: the values of its n words, in the order named; room not used is zeros. One field each: an answer
-// is an enum, which can't hold an array.
+// What a view has seen: the values of its n words, in the order named, one field each; room not used is zeros.
 #[derive(Clone, Copy)]
 pub struct Values {
     pub n: u16,

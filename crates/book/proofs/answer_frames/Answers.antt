@@ -26,10 +26,10 @@ use Rattle.calls.specs.Way.{aim_of, AimKnown}
 use Rattle.frames.specs.Numbers.{Bytes}
 
 -- Where a team's step is answered: the team, the frame found, the turn, and what the stream keeps beside its table.
-abbrev team_at_lem : In-Step → ℕ
-team_at_lem c = c.in-Step.team
+abbrev team_at : In-Step → ℕ
+team_at c = c.in-Step.team
 
-step_inside : (c : In-Step) → AheadInside c.args.input.now c.loop-stop.at (length c.loop-stop.out - c.loop-stop.filled) (Ahead.Step (team_at_lem c))
+step_inside : (c : In-Step) → AheadInside c.args.input.now c.loop-stop.at (length c.loop-stop.out - c.loop-stop.filled) (Ahead.Step (team_at c))
 step_inside c = subst (AheadInside c.args.input.now c.loop-stop.at (length c.loop-stop.out - c.loop-stop.filled)) c.in-Step.is c.next_at-next.ensures.1
 
 abbrev step_turn : In-Step → Turn
@@ -51,7 +51,7 @@ step_turn c =
       bytes = each_byte _ (λ (k : ℕ). omega (arith, c.shared_slice_known-2-1.given k));
       size = step_bytes;
       ahead = (step_inside c).0;
-      aim = Aim.Team step_kind (team_at_lem c);
+      aim = Aim.Team step_kind (team_at c);
       aimed = (step_inside c).1;
       aim_known = (step_inside c).2;
     }
@@ -62,7 +62,7 @@ quick_list c = c.loop-stop.quick
 quick_kept : (c : In-Step) → QuickSlots (step_turn c).known (step_turn c).table.slots (quick_list c)
 quick_kept c = c.loop-stop.invariant.1
 
-team_below : (c : In-Step) → team_at_lem c < team_count
+team_below : (c : In-Step) → team_at c < team_count
 team_below c = (step_inside c).2.2
 
 step_room : (c : In-Step) → RoomAt (step_turn c).out (step_turn c).filled
@@ -113,19 +113,18 @@ no_step c aim told =
     other_than_step c.args.input.now c.loop-stop.at (length c.loop-stop.out - c.loop-stop.filled) (size_at c) aim (sym c.next_at-next.ensures.0 ∙ c.in-Other.is) told.0
 
 pub loop-stop-init : goal.loop-stop-init
-loop-stop-init c =
-    let start = c.args in (
-      record {
-        book = c.requires.0;
-        inside = omega arith;
-        fits = omega arith;
-        same_length = refl;
-        left = record { most = length start.input.now; enough = omega arith; is = refl };
-        made = λ known. all_well_made_lem _ (sym c.all_well_made-known.ensures ∙ known);
-        accepted = c.requires.1;
-      },
-      c.all_quick-quick.ensures,
-    )
+loop-stop-init c = (
+  record {
+    book = c.requires.0;
+    inside = omega arith;
+    fits = omega arith;
+    same_length = refl;
+    left = record { most = length c.args.input.now; enough = omega arith; is = refl };
+    made = λ known. all_well_made_lem _ (sym c.all_well_made-known.ensures ∙ known);
+    accepted = c.requires.1;
+  },
+  c.all_quick-quick.ensures,
+)
 
 pub overflow_sub-out : goal.overflow_sub-out
 overflow_sub-out c = c.loop-stop.invariant.0.fits
@@ -163,7 +162,7 @@ bounds-quick-slot c = omega (arith, team_below (goal.at.bounds-quick-slot c).In-
 
 pub try_quick-tried-requires : goal.try_quick-tried-requires
 try_quick-tried-requires c =
-    ((step_turn (goal.at.try_quick-tried-requires c).In-Step).goes.book, team_below (goal.at.try_quick-tried-requires c).In-Step, quick_at (step_turn (goal.at.try_quick-tried-requires c).In-Step) (team_at_lem (goal.at.try_quick-tried-requires c).In-Step) refl (quick_list (goal.at.try_quick-tried-requires c).In-Step) (quick_kept (goal.at.try_quick-tried-requires c).In-Step))
+    ((step_turn (goal.at.try_quick-tried-requires c).In-Step).goes.book, team_below (goal.at.try_quick-tried-requires c).In-Step, quick_at (step_turn (goal.at.try_quick-tried-requires c).In-Step) (team_at (goal.at.try_quick-tried-requires c).In-Step) refl (quick_list (goal.at.try_quick-tried-requires c).In-Step) (quick_kept (goal.at.try_quick-tried-requires c).In-Step))
 
 pub offset_bounds-slots-slot-in-Step : goal.offset_bounds-slots-slot-in-Step
 offset_bounds-slots-slot-in-Step c = omega (arith, team_below (goal.at.offset_bounds-slots-slot-in-Step c).In-Step)
@@ -174,7 +173,7 @@ bounds-slots-slot-in-Step c = omega (arith, team_below (goal.at.bounds-slots-slo
 pub advanced-after-requires : goal.advanced-after-requires
 advanced-after-requires c =
     let point = (goal.at.advanced-after-requires c).In-Step in
-    (says (step_turn point) (team_at_lem point) refl (quick_list point) (quick_kept point) c.try_quick-tried.result c.try_quick-tried.new.book (book_whole (goal.at.advanced-after-requires c).After-slice_known-in-Step-1) c.try_quick-tried.ensures).advances c.if-tried.true
+    (says (step_turn point) (team_at point) refl (quick_list point) (quick_kept point) c.try_quick-tried.result c.try_quick-tried.new.book (book_whole (goal.at.advanced-after-requires c).After-slice_known-in-Step-1) c.try_quick-tried.ensures).advances c.if-tried.true
 
 pub offset_bounds-slots-slot-then-tried : goal.offset_bounds-slots-slot-then-tried
 offset_bounds-slots-slot-then-tried c = omega (arith, team_below (goal.at.offset_bounds-slots-slot-then-tried c).In-Step)
@@ -190,14 +189,14 @@ loop-stop-smaller-then-tried c = let inside = (step_inside (goal.at.loop-stop-sm
 
 pub loop-stop-preserved-then-tried : goal.loop-stop-preserved-then-tried
 loop-stop-preserved-then-tried c =
-    went_on (step_turn (goal.at.loop-stop-preserved-then-tried c).In-Step) (team_at_lem (goal.at.loop-stop-preserved-then-tried c).In-Step) refl (quick_list (goal.at.loop-stop-preserved-then-tried c).In-Step) (quick_kept (goal.at.loop-stop-preserved-then-tried c).In-Step) c.try_quick-tried.result c.try_quick-tried.new.book (book_whole (goal.at.loop-stop-preserved-then-tried c).After-slice_known-in-Step-1) c.try_quick-tried.ensures
+    went_on (step_turn (goal.at.loop-stop-preserved-then-tried c).In-Step) (team_at (goal.at.loop-stop-preserved-then-tried c).In-Step) refl (quick_list (goal.at.loop-stop-preserved-then-tried c).In-Step) (quick_kept (goal.at.loop-stop-preserved-then-tried c).In-Step) c.try_quick-tried.result c.try_quick-tried.new.book (book_whole (goal.at.loop-stop-preserved-then-tried c).After-slice_known-in-Step-1) c.try_quick-tried.ensures
     c.if-tried.true _ _ _ c.advanced-after.ensures c.put_told-filled.ensures
 
 pub other_step-left-requires : goal.other_step-left-requires
 other_step-left-requires c =
     let point = (goal.at.other_step-left-requires c).In-Step in
-    let told = says (step_turn point) (team_at_lem point) refl (quick_list point) (quick_kept point) c.try_quick-tried.result c.try_quick-tried.new.book (book_whole (goal.at.other_step-left-requires c).After-slice_known-in-Step-1) c.try_quick-tried.ensures in
-    let fast = quick_at (step_turn point) (team_at_lem point) refl (quick_list point) (quick_kept point) in
+    let told = says (step_turn point) (team_at point) refl (quick_list point) (quick_kept point) c.try_quick-tried.result c.try_quick-tried.new.book (book_whole (goal.at.other_step-left-requires c).After-slice_known-in-Step-1) c.try_quick-tried.ensures in
+    let fast = quick_at (step_turn point) (team_at point) refl (quick_list point) (quick_kept point) in
     (book_whole (goal.at.other_step-left-requires c).After-slice_known-in-Step-1, team_below point, (λ claims. record { team_known = team_below point; claiming = told.claiming claims; made = (fast (told.few_claimed claims)).made; room_at = step_room point }), slot_known_made (step_turn point), step_room point)
 
 pub offset_bounds-slots-slot-in-Step-2 : goal.offset_bounds-slots-slot-in-Step-2
@@ -217,7 +216,7 @@ loop-stop-smaller-in-Step c = let inside = (step_inside (goal.at.loop-stop-small
 
 pub loop-stop-preserved-in-Step : goal.loop-stop-preserved-in-Step
 loop-stop-preserved-in-Step c =
-    stepped_on (step_turn (goal.at.loop-stop-preserved-in-Step c).In-Step) (team_at_lem (goal.at.loop-stop-preserved-in-Step c).In-Step) refl (quick_list (goal.at.loop-stop-preserved-in-Step c).In-Step) (quick_kept (goal.at.loop-stop-preserved-in-Step c).In-Step) c.try_quick-tried.result c.try_quick-tried.new.book (book_whole (goal.at.loop-stop-preserved-in-Step c).After-slice_known-in-Step-1) c.try_quick-tried.ensures
+    stepped_on (step_turn (goal.at.loop-stop-preserved-in-Step c).In-Step) (team_at (goal.at.loop-stop-preserved-in-Step c).In-Step) refl (quick_list (goal.at.loop-stop-preserved-in-Step c).In-Step) (quick_kept (goal.at.loop-stop-preserved-in-Step c).In-Step) c.try_quick-tried.result c.try_quick-tried.new.book (book_whole (goal.at.loop-stop-preserved-in-Step c).After-slice_known-in-Step-1) c.try_quick-tried.ensures
     c.if-tried.false _ _ _ _ _ _ c.other_step-left.ensures c.quick_of.ensures
 
 pub overflow_add-frame : goal.overflow_add-frame

@@ -1,6 +1,5 @@
 -- `carry::carry_over` meets its contract: the checks are made in their order, and only then is anything written.
 use mathlib.Core.Path.{sym, ap, ◌∙◌}
-use borrow.Author.Tests.{not-true, not-false}
 use lib.ListN.{length}
 use Rattle.words.specs.Words.{words_in_book, last_leg}
 use Rattle.tickets.specs.Table.{table_of}
@@ -32,24 +31,24 @@ returns-then-not-is_sound_old c =
     let args = c.args in
     let right = whole_right args.old.now args.second.now (c.if-old-ne-WORDS.false, c.if-second-ne-WORDS.false) in
     let none = sym (c.any_stands.ensures args.tickets.targets) ∙ c.if-any_stands.false in
-    refused_15 args.old.now args.second.now (table_of args.tickets) right none (sym c.is_sound_old.ensures ∙ not-true _ c.if-not-is_sound_old.true-raw)
+    refused_15 args.old.now args.second.now (table_of args.tickets) right none (sym c.is_sound_old.ensures ∙ c.if-not-is_sound_old.true)
 
 pub has_leg_above-requires : goal.has_leg_above-requires
 has_leg_above-requires c =
-    (c.if-old-ne-WORDS.false, sym c.is_sound_old.ensures ∙ not-false _ c.if-not-is_sound_old.false-raw)
+    (c.if-old-ne-WORDS.false, sym c.is_sound_old.ensures ∙ c.if-not-is_sound_old.false)
 
 pub returns-then-has_leg_above : goal.returns-then-has_leg_above
 returns-then-has_leg_above c =
     let args = c.args in
     let right = whole_right args.old.now args.second.now (c.if-old-ne-WORDS.false, c.if-second-ne-WORDS.false) in
     let none = sym (c.any_stands.ensures args.tickets.targets) ∙ c.if-any_stands.false in
-    let sound = sym c.is_sound_old.ensures ∙ not-false _ c.if-not-is_sound_old.false-raw in
+    let sound = sym c.is_sound_old.ensures ∙ c.if-not-is_sound_old.false in
     refused_16 args.old.now args.second.now (table_of args.tickets) right none sound (sym c.has_leg_above.ensures ∙ c.if-has_leg_above.true)
 
 pub set_newers-requires : goal.set_newers-requires
 set_newers-requires c =
     let old = c.args.old.now in
-    let sound = sym c.is_sound_old.ensures ∙ not-false _ c.if-not-is_sound_old.false-raw in (
+    let sound = sym c.is_sound_old.ensures ∙ c.if-not-is_sound_old.false in (
       (c.if-old-ne-WORDS.false, ap length c.move_words.ensures ∙ length_from (moved_word old) 0 words_in_book),
       old_links_fit old sound (sym c.has_leg_above.ensures ∙ c.if-has_leg_above.false),
     )
@@ -60,7 +59,7 @@ returns c =
     let old = args.old.now in
     let right = whole_right old args.second.now (c.if-old-ne-WORDS.false, c.if-second-ne-WORDS.false) in
     let none = sym (c.any_stands.ensures args.tickets.targets) ∙ c.if-any_stands.false in
-    let sound = sym c.is_sound_old.ensures ∙ not-false _ c.if-not-is_sound_old.false-raw in
+    let sound = sym c.is_sound_old.ensures ∙ c.if-not-is_sound_old.false in
     let fits = sym c.has_leg_above.ensures ∙ c.if-has_leg_above.false in
     (λ i. (Done, (c.set_newers.ensures ∙ ap (newers_set old last_leg) c.move_words.ensures ∙ old_written old sound fits) i))
     ∙ done_by_lem old args.second.now (table_of args.tickets) right none sound fits

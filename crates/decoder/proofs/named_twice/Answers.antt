@@ -1,4 +1,4 @@
--- `decoder::decoding::named_twice` meets its contract: every two of the four are compared.
+-- `decoder::named_twice` meets its contract: every two of the four are compared.
 use mathlib.Core.Path.{sym, ◌∙◌}
 use Rattle.words.specs.Tests.{some_holds}
 use Rattle.frames.proofs.Ranges.{twice_last}

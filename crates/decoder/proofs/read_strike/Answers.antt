@@ -1,4 +1,4 @@
--- `decoder::decoding::read_strike` meets its contract: the first field out of range is some field out of range, and then the repeats are tested.
+-- `decoder::read_strike` meets its contract: the first field out of range is some field out of range, and then the repeats are tested.
 use borrow.Author.Tests.{eq-eqb, ne_eqb}
 use mathlib.Core.Path.{sym, ◌∙◌}
 use mathlib.Core.Bool.{true≢false}

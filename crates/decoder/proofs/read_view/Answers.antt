@@ -1,5 +1,4 @@
 -- `decoder::read_view` meets its contract: the count, the words and repeats are tested in that order.
-use borrow.Author.Tests.{not-true, not-false}
 use mathlib.Core.Path.{sym, ◌∙◌}
 use Rattle.decoder.proofs.Viewed.{miscounted, outside, repeated, view_read_lem}
 use Rattle.decoder.proofs.read_view.Goals as goal
@@ -11,15 +10,15 @@ returns-then-n-count c =
 pub returns-then-not-all_in_book : goal.returns-then-not-all_in_book
 returns-then-not-all_in_book c =
     c.refused_view-then-not-all_in_book.ensures
-    ∙ outside c.args.part.now c.read16-n.ensures.0 c.if-n-count.false c.named_words-words.ensures (sym c.all_in_book.ensures ∙ not-true _ c.if-not-all_in_book.true-raw)
+    ∙ outside c.args.part.now c.read16-n.ensures.0 c.if-n-count.false c.named_words-words.ensures (sym c.all_in_book.ensures ∙ c.if-not-all_in_book.true)
 
 pub returns-then-not-distinct : goal.returns-then-not-distinct
 returns-then-not-distinct c =
     c.refused_view-then-not-distinct.ensures
     ∙ repeated c.args.part.now c.read16-n.ensures.0 c.if-n-count.false c.named_words-words.ensures
-    (sym c.all_in_book.ensures ∙ not-false _ c.if-not-all_in_book.false-raw) (sym c.distinct.ensures ∙ not-true _ c.if-not-distinct.true-raw)
+    (sym c.all_in_book.ensures ∙ c.if-not-all_in_book.false) (sym c.distinct.ensures ∙ c.if-not-distinct.true)
 
 pub returns : goal.returns
 returns c =
     view_read_lem c.args.part.now c.read16-n.ensures.0 c.if-n-count.false c.named_words-words.ensures
-    (sym c.all_in_book.ensures ∙ not-false _ c.if-not-all_in_book.false-raw) (sym c.distinct.ensures ∙ not-false _ c.if-not-distinct.false-raw)
+    (sym c.all_in_book.ensures ∙ c.if-not-all_in_book.false) (sym c.distinct.ensures ∙ c.if-not-distinct.false)

@@ -1,4 +1,4 @@
--- `decoder::decoding::same_leg` meets its contract: 0 names no leg.
+-- `decoder::same_leg` meets its contract: 0 names no leg.
 use borrow.Author.Tests.{eq-eqb, ne_eqb}
 use Rattle.words.specs.Tests.{all_hold}
 use Rattle.frames.proofs.Ranges.{test_alone}

@@ -1,7 +1,6 @@
 -- `handlers::other_step` meets its contract: a claim that missed, refusal 9 or 7, or the step.
 use mathlib.Core.Path.{refl, sym, ◌∙◌}
 use mathlib.Core.Bool.{true, false, false≢true}
-use borrow.Author.Tests.{not-true, not-false}
 use Rattle.tickets.specs.Table.{gathered}
 use Rattle.handlers.proofs.Cases.{stands_has, stands_not, passes_made, steps_none, steps_badly, step_refused, step_left, same_there}
 use borrow.Author.Rules.{rules}
@@ -28,7 +27,7 @@ returns-then-not-stands c =
       others = same_there targets c.args.slot;
       whole = refl;
       missed = λ claims. absurd (false≢true (sym c.if-tried.false ∙ claims));
-      made = λ none. step_refused book targets c.args.slot c.args.ticket _ 9 _ _ _ _ c.refuse.ensures.0 (steps_none book (gathered targets c.args.slot c.args.ticket) c.args.slot (stands_not targets c.args.slot c.args.ticket (sym c.stands.ensures ∙ not-true _ c.if-not-stands.true-raw))) c.refuse.ensures.1;
+      made = λ none. step_refused book targets c.args.slot c.args.ticket _ 9 _ _ _ _ c.refuse.ensures.0 (steps_none book (gathered targets c.args.slot c.args.ticket) c.args.slot (stands_not targets c.args.slot c.args.ticket (sym c.stands.ensures ∙ c.if-not-stands.true))) c.refuse.ensures.1;
     }
 
 pub returns-then-not-known_well_made : goal.returns-then-not-known_well_made
@@ -39,17 +38,17 @@ returns-then-not-known_well_made c =
       others = same_there targets c.args.slot;
       whole = refl;
       missed = λ claims. absurd (false≢true (sym c.if-tried.false ∙ claims));
-      made = λ none. step_refused book targets c.args.slot c.args.ticket _ 7 _ _ _ _ c.refuse-then-not-known_well_made.ensures.0 (let stands = sym c.stands.ensures ∙ not-false _ c.if-not-stands.false-raw in steps_badly book (gathered targets c.args.slot c.args.ticket) c.args.slot (stands_has targets c.args.slot c.args.ticket stands) (passes_made targets c.args.slot c.args.ticket false stands (sym c.known_well_made.ensures ∙ not-true _ c.if-not-known_well_made.true-raw))) c.refuse-then-not-known_well_made.ensures.1;
+      made = λ none. step_refused book targets c.args.slot c.args.ticket _ 7 _ _ _ _ c.refuse-then-not-known_well_made.ensures.0 (let stands = sym c.stands.ensures ∙ c.if-not-stands.false in steps_badly book (gathered targets c.args.slot c.args.ticket) c.args.slot (stands_has targets c.args.slot c.args.ticket stands) (passes_made targets c.args.slot c.args.ticket false stands (sym c.known_well_made.ensures ∙ c.if-not-known_well_made.true))) c.refuse-then-not-known_well_made.ensures.1;
     }
 
 pub step-requires : goal.step-requires
 step-requires c =
     let targets = c.args.targets.now in
-    let stands = sym c.stands.ensures ∙ not-false _ c.if-not-stands.false-raw in
+    let stands = sym c.stands.ensures ∙ c.if-not-stands.false in
     record {
       book = c.requires.0;
       team_known = c.requires.1;
-      made = passes_made targets c.args.slot c.args.ticket true stands (sym c.known_well_made.ensures ∙ not-false _ c.if-not-known_well_made.false-raw);
+      made = passes_made targets c.args.slot c.args.ticket true stands (sym c.known_well_made.ensures ∙ c.if-not-known_well_made.false);
       inside = c.requires.4.inside;
       room = c.requires.4.room;
     }
@@ -58,8 +57,8 @@ pub returns : goal.returns
 returns c =
     let targets = c.args.targets.now in
     let book = c.args.book.now in
-    let stands = sym c.stands.ensures ∙ not-false _ c.if-not-stands.false-raw in
-    let made = passes_made targets c.args.slot c.args.ticket true stands (sym c.known_well_made.ensures ∙ not-false _ c.if-not-known_well_made.false-raw) in
+    let stands = sym c.stands.ensures ∙ c.if-not-stands.false in
+    let made = passes_made targets c.args.slot c.args.ticket true stands (sym c.known_well_made.ensures ∙ c.if-not-known_well_made.false) in
     record {
       others = c.step.ensures.others;
       whole = search rules;

@@ -28,9 +28,9 @@ returns c =
     let fits = measure_fits_lem measure c.requires in
     let offset = c.clino_offset-offset in
     let clino = fits.clino_fits in
-    let offset-is : offset.result ≡ clino_offset measure.clino = offset.ensures.0 ∙ ap clino_offset (kept16 measure.clino clino) in
-    let compass-is : c.compass_taken-compass.result ≡ compass_taken measure =
-    c.compass_taken-compass.ensures ∙ at_offset measure.compass offset.result measure.clino (ap clino_at offset-is ∙ clino_back measure.clino clino) in (
-      (λ i. measure.distance + compass_unit * compass-is i + clino_unit * offset-is i),
-      omega (arith, fits.distance_most, fits.compass_fits, taken_most measure, compass-is, offset.ensures.1),
+    let offset_is : offset.result ≡ clino_offset measure.clino = offset.ensures.0 ∙ ap clino_offset (kept16 measure.clino clino) in
+    let compass_is : c.compass_taken-compass.result ≡ compass_taken measure =
+    c.compass_taken-compass.ensures ∙ at_offset measure.compass offset.result measure.clino (ap clino_at offset_is ∙ clino_back measure.clino clino) in (
+      (λ i. measure.distance + compass_unit * compass_is i + clino_unit * offset_is i),
+      omega (arith, fits.distance_most, fits.compass_fits, taken_most measure, compass_is, offset.ensures.1),
     )

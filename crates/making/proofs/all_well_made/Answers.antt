@@ -3,7 +3,6 @@ use mathlib.Core.Path.{◌≡◌, refl, sym, ap, ◌∙◌}
 use mathlib.Core.Bool.{false, cond}
 use Prim.Native.Nat.{◌+◌, ◌-◌}
 use native.Mathlib.Omega.{arith}
-use borrow.Author.Tests.{not-true, not-false}
 use Rattle.words.specs.Words.{team_count}
 use Rattle.tickets.specs.Tickets.{ticket_of, slot_well_made, well_made_from}
 use Rattle.tickets.specs.Table.{table_of, table_with}
@@ -19,7 +18,7 @@ returns-then-not-slot_well_made c =
     let args = c.args in
     let table = table_with args.slots args.targets.now in
     let team = c.loop-team.team in
-    let bad : slot_well_made (ticket_of (table_of table) team) ≡ false = ap slot_well_made (slot_gathered table team) ∙ sym c.slot_well_made.ensures ∙ not-true _ c.if-not-slot_well_made.true-raw in
+    let bad : slot_well_made (ticket_of (table_of table) team) ≡ false = ap slot_well_made (slot_gathered table team) ∙ sym c.slot_well_made.ensures ∙ c.if-not-slot_well_made.true in
     (λ i. cond (sym bad i) (well_made_from (team + 1) (team_count - (team + 1)) (table_of table)) false)
     ∙ sym (well_made_next (table_of table) team c.loop-team-test.true)
     ∙ c.loop-team.invariant.1
@@ -32,7 +31,7 @@ loop-team-preserved c =
     let args = c.args in
     let table = table_with args.slots args.targets.now in
     let team = c.loop-team.team in
-    let good = ap slot_well_made (slot_gathered table team) ∙ sym c.slot_well_made.ensures ∙ not-false _ c.if-not-slot_well_made.false-raw in (
+    let good = ap slot_well_made (slot_gathered table team) ∙ sym c.slot_well_made.ensures ∙ c.if-not-slot_well_made.false in (
       omega (arith, c.loop-team-test.true),
       (λ i. cond (sym good i) (well_made_from (team + 1) (team_count - (team + 1)) (table_of table)) false)
           ∙ sym (well_made_next (table_of table) team c.loop-team-test.true)

@@ -1,7 +1,6 @@
 -- `making::names_fit` meets its contract: an edit passes, and of a view both tests of its names are asked.
 use mathlib.Core.Path.{◌≡◌, sym, ap, ◌∙◌}
 use mathlib.Core.Bool.{true, false, cond}
-use borrow.Author.Tests.{not-true, not-false}
 use Rattle.words.proofs.Tests.{next_test, failed_test, last_test}
 use Rattle.tickets.specs.Tickets.{words_in, named_in, names_well_made}
 use Rattle.tickets.specs.Table.{targets_of}
@@ -11,15 +10,15 @@ pub returns-then-not-view : goal.returns-then-not-view
 returns-then-not-view c =
     let args = c.args in
     let ticket = targets_of args.targets.now args.slot args.n in
-    let edit : args.view ≡ false = not-true _ c.if-not-view.true-raw in
+    let edit : args.view ≡ false = c.if-not-view.true in
     sym (ap (λ b. cond b (names_well_made (named_in ticket) (words_in ticket)) true) edit)
 
 pub returns-then-not-names_distinct : goal.returns-then-not-names_distinct
 returns-then-not-names_distinct c =
     let args = c.args in
     let ticket = targets_of args.targets.now args.slot args.n in
-    let view : args.view ≡ true = not-false _ c.if-not-view.false-raw in
-    let twice : c.names_distinct.result ≡ false = not-true _ c.if-not-names_distinct.true-raw in
+    let view : args.view ≡ true = c.if-not-view.false in
+    let twice : c.names_distinct.result ≡ false = c.if-not-names_distinct.true in
     sym
     (ap (λ b. cond b (names_well_made (named_in ticket) (words_in ticket)) true) view
     ∙ failed_test _ _ (sym c.names_distinct.ensures ∙ twice))
@@ -28,8 +27,8 @@ pub returns : goal.returns
 returns c =
     let args = c.args in
     let ticket = targets_of args.targets.now args.slot args.n in
-    let view : args.view ≡ true = not-false _ c.if-not-view.false-raw in
-    let once : c.names_distinct.result ≡ true = not-false _ c.if-not-names_distinct.false-raw in
+    let view : args.view ≡ true = c.if-not-view.false in
+    let once : c.names_distinct.result ≡ true = c.if-not-names_distinct.false in
     c.names_targets.ensures
     ∙ sym
     (ap (λ b. cond b (names_well_made (named_in ticket) (words_in ticket)) true) view

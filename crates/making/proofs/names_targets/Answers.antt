@@ -1,5 +1,4 @@
 -- `making::names_targets` meets its contract: what is asked of all names is asked of those not yet passed.
-use borrow.Author.Tests.{not-true, not-false}
 use native.Mathlib.Omega.{arith}
 use mathlib.Core.Path.{◌≡◌, sym, ap, ◌∙◌}
 use mathlib.Core.Bool.{true, false, cond}
@@ -33,7 +32,7 @@ returns-then-not-is_target c =
     let ticket = targets_of args.targets.now args.slot args.n in
     let same = read_target args.targets.now args.slot loop.k args.n c.loop-k-test.true c.requires.1 in
     let is = c.is_target.ensures ∙ ap (λ (w : ℕ). occurs w (words_in ticket)) (c.new_at-word.ensures ∙ ap (λ target. target.new) same) in
-    let bad : c.is_target.result ≡ false = not-true _ c.if-not-is_target.true-raw in
+    let bad : c.is_target.result ≡ false = c.if-not-is_target.true in
     sym
     (loop.invariant
     ∙ named_next ticket (words_in ticket) args.n loop.k c.is_target.result c.loop-k-test.true is
@@ -53,7 +52,7 @@ loop-k-preserved c =
     let ticket = targets_of args.targets.now args.slot args.n in
     let same = read_target args.targets.now args.slot loop.k args.n c.loop-k-test.true c.requires.1 in
     let is = c.is_target.ensures ∙ ap (λ (w : ℕ). occurs w (words_in ticket)) (c.new_at-word.ensures ∙ ap (λ target. target.new) same) in
-    let good : c.is_target.result ≡ true = not-false _ c.if-not-is_target.false-raw in
+    let good : c.is_target.result ≡ true = c.if-not-is_target.false in
     loop.invariant
     ∙ named_next ticket (words_in ticket) args.n loop.k c.is_target.result c.loop-k-test.true is
     ∙ ap (λ b. cond b (all_occur (names_from (loop.k + 1) (args.n - (loop.k + 1)) ticket) (words_in ticket)) false) good

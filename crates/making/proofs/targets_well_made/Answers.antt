@@ -1,5 +1,4 @@
 -- `making::targets_well_made` meets its contract: the test of all targets is that of those not yet passed.
-use borrow.Author.Tests.{not-true, not-false}
 use native.Mathlib.Omega.{arith}
 use mathlib.Core.Path.{◌≡◌, sym, ap, ◌∙◌}
 use mathlib.Core.Bool.{true, false, cond}
@@ -24,7 +23,7 @@ returns-then-not-target_well_made c =
     let args = c.args in
     let ticket = targets_of args.targets.now args.slot args.n in
     let same = read_target args.targets.now args.slot loop.k args.n c.loop-k-test.true c.requires.1 in
-    let bad : target_well_made (target_at ticket loop.k) ≡ false = ap target_well_made (sym same) ∙ sym c.target_well_made.ensures ∙ not-true _ c.if-not-target_well_made.true-raw in
+    let bad : target_well_made (target_at ticket loop.k) ≡ false = ap target_well_made (sym same) ∙ sym c.target_well_made.ensures ∙ c.if-not-target_well_made.true in
     sym
     (loop.invariant
     ∙ peel ticket args.n loop.k c.loop-k-test.true
@@ -43,7 +42,7 @@ loop-k-preserved c =
     let args = c.args in
     let ticket = targets_of args.targets.now args.slot args.n in
     let same = read_target args.targets.now args.slot loop.k args.n c.loop-k-test.true c.requires.1 in
-    let good : target_well_made (target_at ticket loop.k) ≡ true = ap target_well_made (sym same) ∙ sym c.target_well_made.ensures ∙ not-false _ c.if-not-target_well_made.false-raw in
+    let good : target_well_made (target_at ticket loop.k) ≡ true = ap target_well_made (sym same) ∙ sym c.target_well_made.ensures ∙ c.if-not-target_well_made.false in
     loop.invariant
     ∙ peel ticket args.n loop.k c.loop-k-test.true
     ∙ ap (λ b. cond b (all_well_made (targets_from (loop.k + 1) (args.n - (loop.k + 1)) ticket)) false) good

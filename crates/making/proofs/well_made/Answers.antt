@@ -3,7 +3,6 @@ use Prim.Native.Nat.{◌≤◌, ◌<◌}
 use mathlib.Core.Path.{◌≡◌, sym, ap, subst, ◌∙◌}
 use mathlib.Core.Bool.{true, false, cond}
 use native.Mathlib.Nat.{le_trans}
-use borrow.Author.Tests.{not-true, not-false}
 use Rattle.tickets.specs.Tickets.{words_in, named_in, most_of, counts_well_made, names_well_made}
 use Rattle.tickets.specs.Table.{claims_in, phase_by, targets_of}
 use Rattle.tickets.proofs.Made.{most_of_lem}
@@ -31,7 +30,7 @@ pub returns-then-not-targets_well_made : goal.returns-then-not-targets_well_made
 returns-then-not-targets_well_made c =
     let args = c.args in
     let most : args.ticket.n ≤ most_of (phase_by args.ticket.kind (claims_in args.ticket)) = subst (λ limit. args.ticket.n ≤ limit) (most_told args.ticket _ _ (c.is_view-view.ensures (claims_in args.ticket)) c.most_targets.ensures) c.if-most_targets-ticket.false in
-    let bad : c.targets_well_made.result ≡ false = not-true _ c.if-not-targets_well_made.true-raw in
+    let bad : c.targets_well_made.result ≡ false = c.if-not-targets_well_made.true in
     sym (one_bad args.targets.now args.slot args.ticket c.if-ticket.false most (sym c.targets_well_made.ensures ∙ bad))
 
 pub returns-then-not-counts_fit : goal.returns-then-not-counts_fit
@@ -39,8 +38,8 @@ returns-then-not-counts_fit c =
     let args = c.args in
     let most : args.ticket.n ≤ most_of (phase_by args.ticket.kind (claims_in args.ticket)) = subst (λ limit. args.ticket.n ≤ limit) (most_told args.ticket _ _ (c.is_view-view.ensures (claims_in args.ticket)) c.most_targets.ensures) c.if-most_targets-ticket.false in
     let ticket = args.ticket in
-    let good : c.targets_well_made.result ≡ true = not-false _ c.if-not-targets_well_made.false-raw in
-    let bad : c.counts_fit.result ≡ false = not-true _ c.if-not-counts_fit.true-raw in
+    let good : c.targets_well_made.result ≡ true = c.if-not-targets_well_made.false in
+    let bad : c.counts_fit.result ≡ false = c.if-not-counts_fit.true in
     sym
     (counts_bad args.targets.now args.slot ticket c.if-ticket.false most
     (sym c.targets_well_made.ensures ∙ good)
@@ -58,8 +57,8 @@ returns c =
     let most : args.ticket.n ≤ most_of (phase_by args.ticket.kind (claims_in args.ticket)) = subst (λ limit. args.ticket.n ≤ limit) (most_told args.ticket _ _ (c.is_view-view.ensures (claims_in args.ticket)) c.most_targets.ensures) c.if-most_targets-ticket.false in
     let ticket = args.ticket in
     let targets = targets_of args.targets.now args.slot ticket.n in
-    let good : c.targets_well_made.result ≡ true = not-false _ c.if-not-targets_well_made.false-raw in
-    let fit : c.counts_fit.result ≡ true = not-false _ c.if-not-counts_fit.false-raw in
+    let good : c.targets_well_made.result ≡ true = c.if-not-targets_well_made.false in
+    let fit : c.counts_fit.result ≡ true = c.if-not-counts_fit.false in
     c.names_fit.ensures
     ∙ ap (λ b. cond b (names_well_made (named_in targets) (words_in targets)) true) (c.is_view-view.ensures (claims_in ticket))
     ∙ sym

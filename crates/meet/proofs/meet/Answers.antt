@@ -1,7 +1,6 @@
 -- `meet::meet` meets its contract: the checks are made in their order, the size is known, and only then is anything written.
 use mathlib.Core.Path.{sym, ap, ◌∙◌}
 use native.Mathlib.Omega.{arith}
-use borrow.Author.Tests.{not-true, not-false}
 use lib.ListN.{length}
 use Rattle.words.specs.declared.LegLayout.TheVariants.{FourWords}
 use Rattle.soundness.specs.InWords.{plain_in}
@@ -22,55 +21,55 @@ returns-then-book-ne-WORDS c =
 pub returns-then-not-is_plain : goal.returns-then-not-is_plain
 returns-then-not-is_plain c =
     let args = c.args in
-    sym (refused_15 args.book.now args.station args.out.now c.if-book-ne-WORDS.false (sym c.is_plain.ensures ∙ not-true _ c.if-not-is_plain.true-raw))
+    sym (refused_15 args.book.now args.station args.out.now c.if-book-ne-WORDS.false (sym c.is_plain.ensures ∙ c.if-not-is_plain.true))
 
 pub counts_at-counts-requires : goal.counts_at-counts-requires
 counts_at-counts-requires c =
-    (c.if-book-ne-WORDS.false, sym c.is_plain.ensures ∙ not-false _ c.if-not-is_plain.false-raw)
+    (c.if-book-ne-WORDS.false, sym c.is_plain.ensures ∙ c.if-not-is_plain.false)
 
 pub size_of-size-requires : goal.size_of-size-requires
 size_of-size-requires c =
     let args = c.args in
     let book = args.book.now in
     omega
-    (arith, ap sum_of c.counts_at-counts.ensures, sum_counts args.station (plain_in FourWords book), all_few book (sym c.is_plain.ensures ∙ not-false _ c.if-not-is_plain.false-raw) args.station)
+    (arith, ap sum_of c.counts_at-counts.ensures, sum_counts args.station (plain_in FourWords book), all_few book (sym c.is_plain.ensures ∙ c.if-not-is_plain.false) args.station)
 
 pub overflow_add-words : goal.overflow_add-words
 overflow_add-words c =
     let args = c.args in
-    let few = words_few args.book.now (sym c.is_plain.ensures ∙ not-false _ c.if-not-is_plain.false-raw) args.station _ _ c.counts_at-counts.ensures c.size_of-size.ensures in
+    let few = words_few args.book.now (sym c.is_plain.ensures ∙ c.if-not-is_plain.false) args.station _ _ c.counts_at-counts.ensures c.size_of-size.ensures in
     omega (arith, few)
 
 pub overflow_mul-words : goal.overflow_mul-words
 overflow_mul-words c =
     let args = c.args in
-    let few = words_few args.book.now (sym c.is_plain.ensures ∙ not-false _ c.if-not-is_plain.false-raw) args.station _ _ c.counts_at-counts.ensures c.size_of-size.ensures in
+    let few = words_few args.book.now (sym c.is_plain.ensures ∙ c.if-not-is_plain.false) args.station _ _ c.counts_at-counts.ensures c.size_of-size.ensures in
     omega (arith, few)
 
 pub overflow_add-words-2 : goal.overflow_add-words-2
 overflow_add-words-2 c =
     let args = c.args in
-    let few = words_few args.book.now (sym c.is_plain.ensures ∙ not-false _ c.if-not-is_plain.false-raw) args.station _ _ c.counts_at-counts.ensures c.size_of-size.ensures in
+    let few = words_few args.book.now (sym c.is_plain.ensures ∙ c.if-not-is_plain.false) args.station _ _ c.counts_at-counts.ensures c.size_of-size.ensures in
     omega (arith, few)
 
 pub returns-then-out-words : goal.returns-then-out-words
 returns-then-out-words c =
     let args = c.args in
     let book = args.book.now in
-    let sound = sym c.is_plain.ensures ∙ not-false _ c.if-not-is_plain.false-raw in
+    let sound = sym c.is_plain.ensures ∙ c.if-not-is_plain.false in
     let long = list_length_lem args.station (plain_in FourWords book) _ _ c.counts_at-counts.ensures c.size_of-size.ensures in
     sym (refused_21 book args.station args.out.now c.if-book-ne-WORDS.false sound (omega (arith, long, c.if-out-words.true)))
 
 pub write_list-end-requires : goal.write_list-end-requires
 write_list-end-requires c =
-    let sound = sym c.is_plain.ensures ∙ not-false _ c.if-not-is_plain.false-raw in
+    let sound = sym c.is_plain.ensures ∙ c.if-not-is_plain.false in
     ((((c.if-book-ne-WORDS.false, sound), c.counts_at-counts.ensures), c.size_of-size.ensures), omega (arith, c.if-out-words.false))
 
 pub returns : goal.returns
 returns c =
     let args = c.args in
     let book = args.book.now in
-    let sound = sym c.is_plain.ensures ∙ not-false _ c.if-not-is_plain.false-raw in
+    let sound = sym c.is_plain.ensures ∙ c.if-not-is_plain.false in
     let long = list_length_lem args.station (plain_in FourWords book) _ _ c.counts_at-counts.ensures c.size_of-size.ensures in
     let list = station_list book args.station in
     ◌∙◌ {b = (Written (length list), at_front args.out.now list)}

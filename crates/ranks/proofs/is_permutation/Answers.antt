@@ -1,5 +1,4 @@
 -- `ranks::is_permutation` meets its contract: so many numbers are marked.
-use borrow.Author.Tests.{not-true, not-false}
 use mathlib.Core.Path.{refl, sym, ◌∙◌}
 use mathlib.Core.Bool.{true, false}
 use Prim.Native.Nat.{◌-◌, ◌<◌}
@@ -18,7 +17,7 @@ returns-then-not-found-number c =
     let ranks = c.args.ranks.now in
     let loop = c.loop-number in
     let some : 0 < loop.number = omega (arith, c.loop-number-test.true) in
-    let absent = sym (loop.invariant.3 (loop.number - 1) (omega (arith, loop.invariant.0, some))) ∙ not-true _ c.if-not-found-number.true-raw in
+    let absent = sym (loop.invariant.3 (loop.number - 1) (omega (arith, loop.invariant.0, some))) ∙ c.if-not-found-number.true in
     sym (permutation_is ranks loop.invariant.1 ∙ loop.invariant.2 ∙ all_next ranks loop.number some false absent)
 
 pub loop-number-preserved : goal.loop-number-preserved
@@ -26,7 +25,7 @@ loop-number-preserved c =
     let ranks = c.args.ranks.now in
     let loop = c.loop-number in
     let some : 0 < loop.number = omega (arith, c.loop-number-test.true) in
-    let there = sym (loop.invariant.3 (loop.number - 1) (omega (arith, loop.invariant.0, some))) ∙ not-false _ c.if-not-found-number.false-raw in
+    let there = sym (loop.invariant.3 (loop.number - 1) (omega (arith, loop.invariant.0, some))) ∙ c.if-not-found-number.false in
     (omega (arith, loop.invariant.0), loop.invariant.1, loop.invariant.2 ∙ all_next ranks loop.number some true there, loop.invariant.3)
 
 pub returns : goal.returns

@@ -1,5 +1,4 @@
 -- `ranks::load` meets its contract: the checks are made in the order of the refusals.
-use borrow.Author.Tests.{not-true, not-false}
 use mathlib.Core.Path.{refl, sym, ◌∙◌}
 use mathlib.Core.Bool.{true, false}
 use native.Mathlib.Omega.{arith}
@@ -17,19 +16,19 @@ returns-then-book-ne-WORDS c =
 pub returns-then-not-is_permutation : goal.returns-then-not-is_permutation
 returns-then-not-is_permutation c =
     sym (load_is c.args.book.now (table_of c.args.tickets) c.args.ranks.now c.args.loaded.now false false (ticket_stands (table_of c.args.tickets)) (book_right c.args.book.now (omega (arith, c.if-book-ne-WORDS.false)))
-    (sym c.is_permutation.ensures ∙ not-true _ c.if-not-is_permutation.true-raw) refl)
+    (sym c.is_permutation.ensures ∙ c.if-not-is_permutation.true) refl)
 
 pub returns-then-any_stands : goal.returns-then-any_stands
 returns-then-any_stands c =
     sym (load_is c.args.book.now (table_of c.args.tickets) c.args.ranks.now c.args.loaded.now false true true (book_right c.args.book.now (omega (arith, c.if-book-ne-WORDS.false)))
-    (sym c.is_permutation.ensures ∙ not-false _ c.if-not-is_permutation.false-raw) (sym (c.any_stands.ensures c.args.tickets.targets) ∙ c.if-any_stands.true))
+    (sym c.is_permutation.ensures ∙ c.if-not-is_permutation.false) (sym (c.any_stands.ensures c.args.tickets.targets) ∙ c.if-any_stands.true))
 
 pub take_over-requires : goal.take_over-requires
 take_over-requires c =
-    permutation_long c.args.loaded.now (sym c.is_permutation.ensures ∙ not-false _ c.if-not-is_permutation.false-raw)
+    permutation_long c.args.loaded.now (sym c.is_permutation.ensures ∙ c.if-not-is_permutation.false)
 
 pub returns : goal.returns
 returns c =
     (λ i. (Outcome.Done, c.take_over.ensures i))
     ∙ sym (load_is c.args.book.now (table_of c.args.tickets) c.args.ranks.now c.args.loaded.now false true false (book_right c.args.book.now (omega (arith, c.if-book-ne-WORDS.false)))
-    (sym c.is_permutation.ensures ∙ not-false _ c.if-not-is_permutation.false-raw) (sym (c.any_stands.ensures c.args.tickets.targets) ∙ c.if-any_stands.false))
+    (sym c.is_permutation.ensures ∙ c.if-not-is_permutation.false) (sym (c.any_stands.ensures c.args.tickets.targets) ∙ c.if-any_stands.false))

@@ -3,7 +3,6 @@ use Prim.Native.Nat.{ℕ, ◌+◌, ◌≤◌, ◌<◌}
 use mathlib.Core.Path.{◌≡◌, sym, ap, subst, ◌∙◌}
 use mathlib.Core.Bool.{false≢true}
 use native.Mathlib.Omega.{arith}
-use borrow.Author.Tests.{not-true, not-false}
 use Rattle.legs.specs.Reading.{reading_of}
 use Rattle.words.specs.Words.{last_leg_in, read_of}
 use Rattle.soundness.specs.Checking.{is_of_passage, reading_at}
@@ -63,7 +62,7 @@ returns-then-not-is_of_passage c =
       bounds = λ e. absurd (false≢true e);
       test = λ used marked. sym (reads_other args.layout words args.passage used args.newer args.leg least most
           (sym (marked_tells marked args.leg least most) ∙ sym c.is_marked.ensures ∙ c.if-is_marked.false)
-          (sym reads ∙ not-true _ c.if-not-is_of_passage.true-raw));
+          (sym reads ∙ c.if-not-is_of_passage.true));
     }
 
 pub returns : goal.returns
@@ -81,5 +80,5 @@ returns c =
       test = λ used marked. c.fourth_is.ensures
           ∙ sym (fourth_next args.layout words args.passage used args.newer args.leg least most
           (sym (marked_tells marked args.leg least most) ∙ sym c.is_marked.ensures ∙ c.if-is_marked.false)
-          (sym reads ∙ not-false _ c.if-not-is_of_passage.false-raw));
+          (sym reads ∙ c.if-not-is_of_passage.false));
     }

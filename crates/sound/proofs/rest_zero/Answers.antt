@@ -3,7 +3,6 @@ use mathlib.Core.Path.{◌≡◌, sym, subst, ◌∙◌}
 use mathlib.Core.Bool.{true}
 use Prim.Native.Nat.{ℕ, ◌+◌}
 use native.Mathlib.Omega.{arith}
-use borrow.Author.Tests.{not-true, not-false}
 use Rattle.words.specs.Words.{last_leg_in}
 use Rattle.soundness.specs.Checking.{rest_zero}
 use Rattle.soundness.proofs.Walking.{rest_none, rest_next, rest_off}
@@ -21,13 +20,13 @@ returns-then-not-used_or_zero c =
     let args = c.args in
     let loop = c.loop-done in
     λ used marked. sym (rest_off args.layout args.book.now used (loop.done + 1) (last_leg_in args.layout) (omega (arith, c.last_leg_in-last.ensures))
-    (rest_next args.layout args.book.now used loop.done (loop.invariant.1 used marked) ∙ sym (c.used_or_zero.ensures used marked) ∙ not-true _ c.if-not-used_or_zero.true-raw))
+    (rest_next args.layout args.book.now used loop.done (loop.invariant.1 used marked) ∙ sym (c.used_or_zero.ensures used marked) ∙ c.if-not-used_or_zero.true))
 
 pub loop-done-preserved : goal.loop-done-preserved
 loop-done-preserved c =
     let args = c.args in
     let loop = c.loop-done in
-    (omega arith, λ used marked. rest_next args.layout args.book.now used loop.done (loop.invariant.1 used marked) ∙ sym (c.used_or_zero.ensures used marked) ∙ not-false _ c.if-not-used_or_zero.false-raw)
+    (omega arith, λ used marked. rest_next args.layout args.book.now used loop.done (loop.invariant.1 used marked) ∙ sym (c.used_or_zero.ensures used marked) ∙ c.if-not-used_or_zero.false)
 
 pub returns : goal.returns
 returns c =

@@ -4,7 +4,6 @@ use mathlib.Core.List.{List}
 use mathlib.Core.Option.{Option}
 use Prim.Native.Nat.{ℕ, ◌-◌, ◌<◌}
 use native.Mathlib.Omega.{arith}
-use borrow.Author.Tests.{not-true, not-false}
 use lib.ListN.{length, length-set}
 use Rattle.words.specs.Words.{read_of}
 use Rattle.soundness.specs.Checking.{walk}
@@ -20,25 +19,25 @@ returns-then-not-may_follow c =
     let loop = c.loop-left in
     let args = c.args in
     λ used marked. walking_off args.layout args.book.now loop.bits args.passage loop.left loop.newer loop.leg _ (loop.invariant.1 used marked) c.loop-left-test.true
-    (λ now-used now-marked. sym (c.may_follow.ensures.test now-used now-marked) ∙ not-true _ c.if-not-may_follow.true-raw)
+    (λ now_used now-marked. sym (c.may_follow.ensures.test now_used now-marked) ∙ c.if-not-may_follow.true)
 
 pub overflow_cast-number : goal.overflow_cast-number
 overflow_cast-number c =
     let args = c.args in
-    omega (arith, leg_fits args.layout _ (c.may_follow.ensures.bounds (not-false _ c.if-not-may_follow.false-raw)).1)
+    omega (arith, leg_fits args.layout _ (c.may_follow.ensures.bounds c.if-not-may_follow.false).1)
 
 pub mark-requires : goal.mark-requires
 mark-requires c =
     let args = c.args in
-    let bounds = c.may_follow.ensures.bounds (not-false _ c.if-not-may_follow.false-raw) in
+    let bounds = c.may_follow.ensures.bounds c.if-not-may_follow.false in
     (bounds.0, subst (λ (long : ℕ). byte_of c.loop-left.leg < long) (sym c.loop-left.invariant.0) (byte_inside args.layout c.loop-left.leg bounds.0 bounds.1))
 
 pub link_word_in-requires : goal.link_word_in-requires
-link_word_in-requires c = c.may_follow.ensures.bounds (not-false _ c.if-not-may_follow.false-raw)
+link_word_in-requires c = c.may_follow.ensures.bounds c.if-not-may_follow.false
 
 pub bounds-book-link_word_in : goal.bounds-book-link_word_in
 bounds-book-link_word_in c =
-    let bounds = c.may_follow.ensures.bounds (not-false _ c.if-not-may_follow.false-raw) in
+    let bounds = c.may_follow.ensures.bounds c.if-not-may_follow.false in
     omega (arith, three_inside c.args.layout c.loop-left.leg c.link_word_in.result c.link_word_in.ensures bounds.0 bounds.1, c.requires.0)
 
 pub loop-left-preserved : goal.loop-left-preserved
@@ -47,14 +46,14 @@ loop-left-preserved c =
     let args = c.args in
     let book = args.book.now in
     let whole : List ℕ → Option (List ℕ) = λ used. walk args.layout book args.passage args.count 0 args.newest used in
-    let bounds = c.may_follow.ensures.bounds (not-false _ c.if-not-may_follow.false-raw) in
+    let bounds = c.may_follow.ensures.bounds c.if-not-may_follow.false in
     let marks = c.mark.ensures in (
       ap length marks ∙ length-set loop.bits (byte_of loop.leg) _ ∙ loop.invariant.0,
       λ used marked.
           subst (λ (l : List ℕ). Walking args.layout book l args.passage (loop.left - 1) loop.leg (read_of book c.link_word_in.result) (whole used)) (sym marks)
           (subst (λ (at : ℕ). Walking args.layout book (with_bit loop.bits loop.leg) args.passage (loop.left - 1) loop.leg (read_of book at) (whole used)) (sym c.link_word_in.ensures)
           (walking_on args.layout book loop.bits args.passage loop.left loop.newer loop.leg _ (loop.invariant.1 used marked) c.loop-left-test.true bounds.0 bounds.1
-          (λ now-used now-marked. sym (c.may_follow.ensures.test now-used now-marked) ∙ not-false _ c.if-not-may_follow.false-raw))),
+          (λ now_used now-marked. sym (c.may_follow.ensures.test now_used now-marked) ∙ c.if-not-may_follow.false))),
     )
 
 pub returns : goal.returns

@@ -1,7 +1,6 @@
 -- `sound::walk_passages` meets its contract: the passages so far are walked, and the bits are those of the legs used.
 use mathlib.Core.List.{[]}
 use native.Mathlib.Omega.{arith}
-use borrow.Author.Tests.{not-true, not-false}
 use Rattle.words.specs.Words.{passage_count}
 use Rattle.soundness.proofs.Walking.{below_none}
 use Rattle.sound.proofs.Bits.{reached_on, reached_off, reached_all}
@@ -17,13 +16,13 @@ pub returns-then-not-walk_passage : goal.returns-then-not-walk_passage
 returns-then-not-walk_passage c =
     let loop = c.loop-passage in
     let args = c.args in
-    reached_off args.layout args.book.now loop.bits _ loop.passage c.walk_passage.result loop.invariant.1 (c.walk_passage.ensures loop.invariant.1.used loop.invariant.1.marked) (not-true _ c.if-not-walk_passage.true-raw) passage_count (omega arith)
+    reached_off args.layout args.book.now loop.bits _ loop.passage c.walk_passage.result loop.invariant.1 (c.walk_passage.ensures loop.invariant.1.used loop.invariant.1.marked) c.if-not-walk_passage.true passage_count (omega arith)
 
 pub loop-passage-preserved : goal.loop-passage-preserved
 loop-passage-preserved c =
     let loop = c.loop-passage in
     let args = c.args in
-    (omega arith, reached_on args.layout args.book.now loop.bits _ loop.passage c.walk_passage.result loop.invariant.1 (c.walk_passage.ensures loop.invariant.1.used loop.invariant.1.marked) (not-false _ c.if-not-walk_passage.false-raw))
+    (omega arith, reached_on args.layout args.book.now loop.bits _ loop.passage c.walk_passage.result loop.invariant.1 (c.walk_passage.ensures loop.invariant.1.used loop.invariant.1.marked) c.if-not-walk_passage.false)
 
 pub returns : goal.returns
 returns c =

@@ -22,5 +22,5 @@ returns c =
     let book = args.book.now in
     let leg = leg_at FourWords book args.leg in
     let from_told = c.from_in.ensures ∙ ap (λ (at : ℕ). (stations_in (read_of book at)).from) c.place_word.ensures in
-    let to-told = c.to_in.ensures ∙ ap (λ (at : ℕ). (stations_in (read_of book at)).to) c.place_word.ensures in
-    ap (λ (to : ℕ). eqb to args.station) to-told ∙ sym (from_elsewhere args.station leg (λ same. c.if-from_in-sought.false (from_told ∙ same)))
+    let to_told = c.to_in.ensures ∙ ap (λ (at : ℕ). (stations_in (read_of book at)).to) c.place_word.ensures in
+    ap (λ (to : ℕ). eqb to args.station) to_told ∙ sym (from_elsewhere args.station leg (λ same. c.if-from_in-sought.false (from_told ∙ same)))
