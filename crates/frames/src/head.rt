@@ -2,9 +2,10 @@
 ghost use Rattle.std.specs.Prelude.{◌≡◌, ◌≤◌, length};
 ghost use Rattle.frames.specs.Requests.{head_bytes, part_after_kind, view_kind, length_of_kind, is_edit_kind, length_fits};
 ghost use Rattle.frames.specs.Fields.{header_of, WholeIfKnown, is_step};
+ghost use Rattle.frames.specs.Refusals.{numbered};
 
 use crate::numbers::{read16, read32};
-use crate::{Frame, Header, Kind, Length, Refusal};
+use crate::{Frame, Kind, Length, Refusal};
 use words::Limits;
 
 // The part of the frame after its kind.
@@ -72,36 +73,36 @@ fn is_step(frame: &[u8]) -> bool
 }
 
 // The kind, unless refusal 3, 4 or 5 comes first.
-pub fn read_header(frame: &[u8]) -> Header
-    ensures { (result ≡ header_of frame.now) × WholeIfKnown frame.now result }
+pub fn read_header(frame: &[u8]) -> Result<u16, Refusal>
+    ensures { (numbered result ≡ header_of frame.now) × WholeIfKnown frame.now result }
 {
     if is_step(frame) {
-        return Header::Kind(Kind::STEP);
+        return Ok(Kind::STEP);
     }
     let count = frame.len();
     if count < Frame::HEAD {
-        return Header::Refused(Refusal::TORN);
+        return Err(Refusal::Torn);
     }
     if Frame::LONGEST < count {
-        return Header::Refused(Refusal::TORN);
+        return Err(Refusal::Torn);
     }
     let length = read16(frame, 0);
     if length as usize + Frame::FIELD != count {
-        return Header::Refused(Refusal::TORN);
+        return Err(Refusal::Torn);
     }
     let kind = read16(frame, Frame::FIELD);
     let due = length_of_kind(kind);
     if length == due {
-        return Header::Kind(kind);
+        return Ok(kind);
     }
     if kind == Kind::VIEW {
         if fits_view(length) {
-            return Header::Kind(kind);
+            return Ok(kind);
         }
-        return Header::Refused(Refusal::LENGTH);
+        return Err(Refusal::Length);
     }
     if due == 0 {
-        return Header::Refused(Refusal::KIND);
+        return Err(Refusal::Kind);
     }
-    Header::Refused(Refusal::LENGTH)
+    Err(Refusal::Length)
 }

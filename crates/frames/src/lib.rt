@@ -1,9 +1,12 @@
 // Frames: what is read from a frame and what answers it, as types; numbers in bytes, and a frame's head.
 #![tactic(auto)]
 
+ghost use Rattle.std.specs.Prelude.{◌≡◌};
+ghost use Rattle.frames.specs.Refusals.{refusal_number};
+
 use crate::numbers::Bits;
-use edits::{Edit, View};
-use legs::Measure;
+use std::error::Error;
+use std::fmt;
 use tickets::{LookAnswer, StepAnswer};
 use words::Limits;
 
@@ -18,38 +21,6 @@ pub enum Answer {
     Refused(u16),
 }
 
-// The kind of a whole frame, or the number of the refusal.
-#[derive(Clone, Copy)]
-pub enum Header {
-    Kind(u16),
-    Refused(u16),
-}
-
-// A field's answer: of 16 bits, of 32, signed, and of the fields that make a measure.
-#[derive(Clone, Copy)]
-pub enum Field {
-    InRange(u16),
-    OutOfRange,
-}
-
-#[derive(Clone, Copy)]
-pub enum LongField {
-    InRange(u32),
-    OutOfRange,
-}
-
-#[derive(Clone, Copy)]
-pub enum SignedField {
-    InRange(i16),
-    OutOfRange,
-}
-
-#[derive(Clone, Copy)]
-pub enum MeasureField {
-    InRange(Measure),
-    OutOfRange,
-}
-
 // Of a leg that is taken out of its passage's list: the next newer leg, itself, the next older, and the count of legs.
 #[derive(Clone, Copy)]
 pub struct Taken {
@@ -57,33 +28,6 @@ pub struct Taken {
     pub leg: u16,
     pub older: u16,
     pub count: u16,
-}
-
-#[derive(Clone, Copy)]
-pub enum TakenField {
-    InRange(Taken),
-    OutOfRange,
-}
-
-// The edit that a frame's fields are, or the number of the refusal.
-#[derive(Clone, Copy)]
-pub enum EditRead {
-    Is(Edit),
-    Refused(u16),
-}
-
-// Whether a frame's fields are a view, or the number of the refusal,
-#[derive(Clone, Copy)]
-pub enum Reading {
-    Is,
-    Refused(u16),
-}
-
-// and the view beside it, which holds an array; a refused one names no words.
-#[derive(Clone, Copy)]
-pub struct ViewRead {
-    pub reading: Reading,
-    pub view: View,
 }
 
 // The size of a frame, in bytes.
@@ -178,46 +122,45 @@ impl Kind {
     pub const CORRECT_IN_MINUTES: u16 = 18;
 }
 
-// The numbers of the refusals, in checking order.
-#[derive(Drop)]
-pub struct Refusal {}
+// Why a frame or a call without a frame is refused, with the papers' numbers, in checking order.
+#[derive(Clone, Copy, Debug, PartialEq, Eq)]
+pub enum Refusal {
+    // These three are returned, and written nowhere. The ranks are tested after the book.
+    Book = 1,
+    Ranks = 13,
+    Output = 2,
+    Torn = 3,
+    Kind = 4,
+    Length = 5,
+    Team = 6,
+    Ticket = 7,
+    Standing = 8,
+    NoTicket = 9,
+    Range = 10,
+    Repeated = 11,
+    // These are of calls without a frame, and are returned.
+    Scratch = 12,
+    TicketStands = 14,
+    Unsound = 15,
+    LegAbove = 16,
+    Store = 19,
+    Shelf = 20,
+    List = 21,
+}
 
 impl Refusal {
-    // These three are returned, and written nowhere. The ranks are tested after the book.
-    pub const BOOK: usize = 1;
-
-    pub const RANKS: usize = 13;
-
-    pub const OUTPUT: usize = 2;
-
-    pub const TORN: u16 = 3;
-
-    pub const KIND: u16 = 4;
-
-    pub const LENGTH: u16 = 5;
-
-    pub const TEAM: u16 = 6;
-
-    pub const TICKET: u16 = 7;
-
-    pub const STANDING: u16 = 8;
-
-    pub const NO_TICKET: u16 = 9;
-
-    pub const RANGE: u16 = 10;
-
-    pub const REPEATED: u16 = 11;
-
-    // These are of calls without a frame, and are returned.
-    pub const TICKET_STANDS: u16 = 14;
-
-    pub const UNSOUND: u16 = 15;
-
-    pub const LEG_ABOVE: u16 = 16;
-
-    pub const STORE: u16 = 19;
-
-    pub const SHELF: u16 = 20;
-
-    pub const LIST: u16 = 21;
+    // The number that a frame carries, or that a call returns.
+    pub fn number(self) -> u16
+        ensures { result ≡ refusal_number self }
+    {
+        self as u16
+    }
 }
+
+impl fmt::Display for Refusal {
+    fn fmt<W: fmt::Write>(&self, f: &mut fmt::Formatter<W>) -> fmt::Result {
+        write!(f, "refused {}", self.number())
+    }
+}
+
+impl Error for Refusal {}
