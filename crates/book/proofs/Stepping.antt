@@ -1,4 +1,5 @@
 -- A turn of the stream, by the way that its frame goes: a step on the fast way, any other step, and any other frame.
+use Rattle.std.specs.Prelude.{Result, Ok, Err}
 use native.Mathlib.Omega.{arith}
 use native.Mathlib.Decide.{ℕ_discrete, dec_lt}
 use Prim.Native.Nat.{ℕ, ◌+◌, ◌-◌, ◌<◌, ◌≤◌}
@@ -70,10 +71,10 @@ ends_ahead words table ranks input out at filled most stop enough ahead = elim (
     ends (Ahead.Step team) = false
     ends (Ahead.Other size) = false
 
-    answered : (aim : Aim) (size : ℕ) → ahead_by aim size ≡ Ahead.End stop → ⊥
-    answered (Aim.Refused number) size e = false≢true (ap ends e)
-    answered Aim.Look size e = false≢true (ap ends e)
-    answered (Aim.Team kind team) size e = go (eqb kind step_kind) e
+    answered : (aim : Result Aim ℕ) (size : ℕ) → ahead_by aim size ≡ Ahead.End stop → ⊥
+    answered (Err number) size e = false≢true (ap ends e)
+    answered (Ok Aim.Look) size e = false≢true (ap ends e)
+    answered (Ok (Aim.Team kind team)) size e = go (eqb kind step_kind) e
       where
         go : (step : Bool) → cond step (Ahead.Step team) (Ahead.Other size) ≡ Ahead.End stop → ⊥
         go true e = false≢true (ap ends e)
@@ -94,7 +95,7 @@ ends_ahead words table ranks input out at filled most stop enough ahead = elim (
         full_or (no room) = absurd (answered (aim_of (frame_at input at size)) size (ap (λ b. cond b (Ahead.End OutputFull) (ahead_by (aim_of (frame_at input at size)) size)) (sym (le-ltb (length out - filled) longest_answer (omega (arith, room)))) ∙ e))
 
 -- A frame that is ahead as no step is none.
-pub other_than_step : (input : Bytes) (at room size : ℕ) (aim : Aim) → ahead_of input at room ≡ Ahead.Other size → aim ≡ aim_of (frame_at input at size) → NoStep aim
+pub other_than_step : (input : Bytes) (at room size : ℕ) (aim : Result Aim ℕ) → ahead_of input at room ≡ Ahead.Other size → aim ≡ aim_of (frame_at input at size) → NoStep aim
 unfolding ahead_of
 other_than_step input at room size aim ahead aimed = by (next_at input at) ahead
   where
@@ -108,10 +109,10 @@ other_than_step input at room size aim ahead aimed = by (next_at input at) ahead
     size_in (Ahead.Step team) = 0
     size_in (Ahead.Other size) = size
 
-    told : (aim : Aim) (found : ℕ) → ahead_by aim found ≡ Ahead.Other size → NoStep aim × (found ≡ size)
-    told (Aim.Refused number) found e = (tt, ap size_in e)
-    told Aim.Look found e = (tt, ap size_in e)
-    told (Aim.Team kind team) found e = go (eqb kind step_kind) refl e
+    told : (aim : Result Aim ℕ) (found : ℕ) → ahead_by aim found ≡ Ahead.Other size → NoStep aim × (found ≡ size)
+    told (Err number) found e = (tt, ap size_in e)
+    told (Ok Aim.Look) found e = (tt, ap size_in e)
+    told (Ok (Aim.Team kind team)) found e = go (eqb kind step_kind) refl e
       where
         go : (step : Bool) → eqb kind step_kind ≡ step → cond step (Ahead.Step team) (Ahead.Other found) ≡ Ahead.Other size → (eqb kind step_kind ≡ false) × (found ≡ size)
         go true is e = absurd (false≢true (ap others e))
@@ -159,7 +160,7 @@ few_stand slot few = go slot.kind (is_plain slot) few
 pub stands_made : (targets : List ℕ) (team : ℕ) (slot : Slot.Ticket) → slot.done < slot.n → SlotWellMade (gathered targets team slot) → (has_ticket (gathered targets team slot).phase ≡ true) × (well_made (gathered targets team slot) ≡ true)
 stands_made targets team slot below made = let has = gathered_has targets team slot ∙ lt-ltb slot.done slot.n below in (has, made has)
 
-module _ (turn : Turn) (team : ℕ) (is_step_lem : turn.aim ≡ Aim.Team step_kind team) (quick : List ℕ) (kept : QuickSlots turn.known turn.table.slots quick) where
+module _ (turn : Turn) (team : ℕ) (is_step_lem : turn.aim ≡ Ok (Aim.Team step_kind team)) (quick : List ℕ) (kept : QuickSlots turn.known turn.table.slots quick) where
   abbrev slot : Slot.Ticket
   slot = slot_of turn.table team
 
@@ -192,7 +193,7 @@ module _ (turn : Turn) (team : ℕ) (is_step_lem : turn.aim ≡ Aim.Team step_ki
   -- What the frame settles is the step.
   settles : settled_in turn ≡ step_by turn.words ticket team
   settles =
-      ap (λ (a : Aim). settled_by turn.words (gathered targets (way.slot_of a) (slot_of turn.table (way.slot_of a))) turn.ranks (frame_in turn) a) is_step_lem
+      ap (λ (a : Result Aim ℕ). settled_by turn.words (gathered targets (way.slot_of a) (slot_of turn.table (way.slot_of a))) turn.ranks (frame_in turn) a) is_step_lem
       ∙ step_by_lem turn.words ticket turn.ranks (frame_in turn) team
 
   -- What a step leaves, as the turn has it.
@@ -218,7 +219,7 @@ module _ (turn : Turn) (team : ℕ) (is_step_lem : turn.aim ≡ Aim.Team step_ki
       record { ticket_left = by.ticket_left; words_left = by.words_left; answered = by.answered }
 
 -- A swap on the fast way.
-module _ (turn : Turn) (team : ℕ) (is_step_lem : turn.aim ≡ Aim.Team step_kind team) (quick : List ℕ) (kept : QuickSlots turn.known turn.table.slots quick) (tried : Tried) (after : Words) (whole : length after ≡ words_in_book)
+module _ (turn : Turn) (team : ℕ) (is_step_lem : turn.aim ≡ Ok (Aim.Team step_kind team)) (quick : List ℕ) (kept : QuickSlots turn.known turn.table.slots quick) (tried : Tried) (after : Words) (whole : length after ≡ words_in_book)
     (is : ◌≡◌ {A = Tried × Words} (tried, after) (quick_tried turn.words turn.table.targets team (slot_of turn.table team) (get_or quick team 0))) where
   abbrev its_slot : Slot.Ticket
   its_slot = slot_of turn.table team

@@ -1,4 +1,5 @@
 -- One turn of the stream, from what the code has there: what the frame leaves in its slot, the words, and its answer.
+use Rattle.std.specs.Prelude.{Result}
 use native.Mathlib.Omega.{arith}
 use Prim.Native.Nat.{ℕ, zero, suc, ◌+◌, ◌-◌, ◌<◌, ◌≤◌}
 use mathlib.Core.Path.{◌≡◌, refl, sym, ap, subst, ◌∙◌}
@@ -71,7 +72,7 @@ pub record Turn : Type 0 where
   pub bytes : are_bytes input ≡ true
   pub size : ℕ
   pub ahead : FrameAhead input at (length out - filled) size
-  pub aim : Aim
+  pub aim : Result Aim ℕ
   pub aimed : aim_of (frame_at input at size) ≡ aim
   pub aim_known : AimKnown (frame_at input at size) aim
 

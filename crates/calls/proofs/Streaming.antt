@@ -1,4 +1,5 @@
 -- One turn of the stream: it ends, it stops, it finds no room, or it goes on with one call.
+use Rattle.std.specs.Prelude.{Result}
 use Prim.Native.Nat.{ℕ, zero, suc, ◌+◌, ◌-◌, ◌<◌, ◌≤◌}
 use native.Mathlib.Nat.{not-suc-le-zero}
 use native.Mathlib.Omega.{arith}
@@ -74,7 +75,7 @@ pub add_less : (a b : ℕ) → a + b - a ≡ b
 add_less a b = omega arith
 
 -- One turn, from what the code has: what the frame settled, the table with its ticket stored, the answer written at w.
-pub turn : (words : Words) (tickets next : Tickets) (ranks : Ranks) (input out : Bytes) (at w most size : ℕ) (aim : Aim) (slot : ℕ) (result : Settled) (after_words : Words) (answer : Answer) (end_written : ℕ) (output : Bytes)
+pub turn : (words : Words) (tickets next : Tickets) (ranks : Ranks) (input out : Bytes) (at w most size : ℕ) (aim : Result Aim ℕ) (slot : ℕ) (result : Settled) (after_words : Words) (answer : Answer) (end_written : ℕ) (output : Bytes)
     → 0 < most → next_at input at ≡ Frame size → longest_answer ≤ length out - w → length words ≡ words_in_book → Accepted ranks
     → aim ≡ aim_of (take size (drop at input))
     → slot ≡ slot_of aim

@@ -11,17 +11,9 @@ pub struct Reply {
     pub tickets: Tickets,
 }
 
-// What a call without a frame comes to: it went, or is refused by a number.
-#[derive(Clone, Copy)]
-pub enum Outcome {
-    Done,
-    Refused(u16),
-}
-
-// Where a frame goes: back, refused; to a look; or to a team, with its kind.
+// Where a frame that is not refused goes: to a look; or to a team, with its kind.
 #[derive(Clone, Copy)]
 pub enum Aim {
-    Refused(u16),
     Look,
     Team(u16, u16),
 }

@@ -1,5 +1,5 @@
 -- What stands at a place of the input, as the stream goes by it: a step is told before all other frames.
-use Rattle.std.specs.Prelude.{ℕ, ◌+◌, ◌-◌, ◌≤◌, ◌≡◌, Bool, false, cond, length, take, drop, eqb, ltb}
+use Rattle.std.specs.Prelude.{ℕ, ◌+◌, ◌-◌, ◌≤◌, ◌≡◌, Bool, false, cond, length, take, drop, eqb, ltb, Result, Ok, Err}
 use Rattle.words.specs.Words.{team_count}
 use Rattle.frames.specs.Numbers.{Bytes, number16, number32}
 use Rattle.frames.specs.Requests.{head_bytes, step_kind, length_of_kind}
@@ -29,10 +29,10 @@ abbrev pub frame_at : Bytes → ℕ → ℕ → Bytes
 frame_at input at size = take (at + size - at) (drop at input)
 
 -- A frame by its aim: a team's step, or another.
-abbrev pub ahead_by : Aim → ℕ → Ahead
-ahead_by (Aim.Refused number) size = Ahead.Other size
-ahead_by Aim.Look size = Ahead.Other size
-ahead_by (Aim.Team kind team) size = cond (eqb kind step_kind) (Ahead.Step team) (Ahead.Other size)
+abbrev pub ahead_by : Result Aim ℕ → ℕ → Ahead
+ahead_by (Err number) size = Ahead.Other size
+ahead_by (Ok Aim.Look) size = Ahead.Other size
+ahead_by (Ok (Aim.Team kind team)) size = cond (eqb kind step_kind) (Ahead.Step team) (Ahead.Other size)
 
 -- What stands at a place: nothing, a whole frame that there is no room to answer, or one that is answered.
 unfoldable pub ahead_of : Bytes → ℕ → ℕ → Ahead
@@ -49,5 +49,5 @@ pub record FrameAhead (input : Bytes) (at room size : ℕ) : Type 0 where
 abbrev pub AheadInside : Bytes → ℕ → ℕ → Ahead → Type 0
 AheadInside input at room (Ahead.End stop) = Unit {0}
 AheadInside input at room (Ahead.Step team) =
-    FrameAhead input at room step_bytes × (aim_of (frame_at input at step_bytes) ≡ Aim.Team step_kind team) × AimKnown (frame_at input at step_bytes) (Aim.Team step_kind team)
+    FrameAhead input at room step_bytes × (aim_of (frame_at input at step_bytes) ≡ Ok (Aim.Team step_kind team)) × AimKnown (frame_at input at step_bytes) (Ok (Aim.Team step_kind team))
 AheadInside input at room (Ahead.Other size) = FrameAhead input at room size

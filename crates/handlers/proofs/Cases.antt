@@ -1,4 +1,5 @@
 -- What a frame settles, case by case: each test of the code, and what the definitions of the way say there.
+use Rattle.std.specs.Prelude.{Result, Ok, Err}
 use Prim.Native.Nat.{ℕ, ◌≤◌, ◌<◌}
 use mathlib.Core.Path.{◌≡◌, refl, sym, ap, subst, ◌∙◌}
 use mathlib.Core.Bool.{Bool, true, false, cond, not, false≢true}
@@ -22,13 +23,10 @@ use Rattle.edits.specs.Opened.{target_count, opened_ticket}
 use Rattle.edits.specs.Views.{all_in_book, view_in_range, view_repeats, FineView, view_of, words_named, opened_view}
 use Rattle.edits.proofs.Views.{words_named_lem}
 use Rattle.frames.specs.declared.Answer.{Answer}
-use Rattle.frames.specs.declared.EditRead.{EditRead}
-use Rattle.frames.specs.declared.Reading.TheVariants as Reading
-use Rattle.frames.specs.declared.ViewRead.{ViewRead}
 use Rattle.frames.specs.Numbers.{Bytes, number16}
 use Rattle.frames.specs.Requests.{part_after_kind, step_kind, look_kind, view_kind, is_edit_kind, edit_of_kind, angles_of_kind, view_words_in}
 use Rattle.frames.specs.Answers.{answer_frame, PutAt}
-use Rattle.frames.specs.Fields.{read_if, read_edit, read_as, view_read, ViewFields, Whole}
+use Rattle.frames.specs.Fields.{read_if, read_edit, view_read, ViewFields, Whole}
 use Rattle.frames.proofs.Headers.{edit_kind_lem, other_kind, fields_of_kind, fields_of_view}
 use Rattle.decoder.proofs.Decoded.{only_allowed}
 use Rattle.calls.proofs.Refusing.{named_many}
@@ -49,7 +47,7 @@ pub looked_so : (words : Words) (out : Bytes) (at : ℕ) {first second place : �
 looked_so words out at {first} {second} {place} {output} is put = subst (λ (word : ℕ). PutAt out at (answer_frame (look_answer words word)) place output) is put
 
 -- A step of a team.
-pub step_by_lem : (words : Words) (ticket : Ticket) (ranks : Ranks) (frame : Bytes) (team : ℕ) → settled_by words ticket ranks frame (Aim.Team step_kind team) ≡ step_by words ticket team
+pub step_by_lem : (words : Words) (ticket : Ticket) (ranks : Ranks) (frame : Bytes) (team : ℕ) → settled_by words ticket ranks frame (Ok (Aim.Team step_kind team)) ≡ step_by words ticket team
 unfolding settled_by team_settled
 step_by_lem words ticket ranks frame team = refl
 
@@ -65,7 +63,7 @@ pub steps_made : (words : Words) (ticket : Ticket) (team : ℕ) → has_ticket t
 steps_made words ticket team stands made = rw (stands, made) refl
 
 -- Another frame of a team.
-pub open_by_lem : (words : Words) (ticket : Ticket) (ranks : Ranks) (frame : Bytes) (kind team : ℕ) → eqb kind step_kind ≡ false → settled_by words ticket ranks frame (Aim.Team kind team) ≡ (open_by ticket ranks (part_after_kind frame) kind, words)
+pub open_by_lem : (words : Words) (ticket : Ticket) (ranks : Ranks) (frame : Bytes) (kind team : ℕ) → eqb kind step_kind ≡ false → settled_by words ticket ranks frame (Ok (Aim.Team kind team)) ≡ (open_by ticket ranks (part_after_kind frame) kind, words)
 unfolding settled_by team_settled
 open_by_lem words ticket ranks frame kind team other = go (has_ticket ticket.phase) (well_made ticket)
   where
@@ -77,11 +75,11 @@ open_by_lem words ticket ranks frame kind team other = go (has_ticket ticket.pha
     go false made = rw other refl
 
 -- Frames that are no step change no word.
-pub no_word : (words : Words) (ticket : Ticket) (ranks : Ranks) (frame : Bytes) (aim : Aim) → NoStep aim → (settled_by words ticket ranks frame aim).1 ≡ words
+pub no_word : (words : Words) (ticket : Ticket) (ranks : Ranks) (frame : Bytes) (aim : Result Aim ℕ) → NoStep aim → (settled_by words ticket ranks frame aim).1 ≡ words
 unfolding settled_by
-no_word words ticket ranks frame (Aim.Refused number) other = refl
-no_word words ticket ranks frame Aim.Look other = refl
-no_word words ticket ranks frame (Aim.Team kind team) other = ap (λ (r : Settled × Words). r.1) (open_by_lem words ticket ranks frame kind team other)
+no_word words ticket ranks frame (Err number) other = refl
+no_word words ticket ranks frame (Ok Aim.Look) other = refl
+no_word words ticket ranks frame (Ok (Aim.Team kind team)) other = ap (λ (r : Settled × Words). r.1) (open_by_lem words ticket ranks frame kind team other)
 
 -- Over a ticket they are refused,
 pub opens_over : (ticket : Ticket) (ranks : Ranks) (part : Bytes) (kind : ℕ) → has_ticket ticket.phase ≡ true → well_made ticket ≡ true → settled_with ticket (Answer.Refused 8) ≡ open_by ticket ranks part kind
@@ -105,7 +103,7 @@ edit_fields_lem frame kind part whole edit is =
     let no_view = (edit_kind_lem kind edit).2 in
     record { edit = edit; long = ap length is ∙ fields_of_kind whole (λ e. false≢true (sym no_view ∙ eq-eqb kind view_kind e)) }
 
-pub view_kind_lem : (frame : Bytes) (kind team : ℕ) → AimKnown frame (Aim.Team kind team) → eqb kind step_kind ≡ false → is_edit_kind kind ≡ false → kind ≡ view_kind
+pub view_kind_lem : (frame : Bytes) (kind team : ℕ) → AimKnown frame (Ok (Aim.Team kind team)) → eqb kind step_kind ≡ false → is_edit_kind kind ≡ false → kind ≡ view_kind
 view_kind_lem frame kind team known no_step no_edit = elim (ℕ_discrete kind view_kind) [
   | yes view ↦ view
   | no no_view ↦ absurd (false≢true (sym no_edit ∙ other_kind kind known.0.known no_step (ne_eqb kind look_kind known.1) (ne_eqb kind view_kind no_view)))
@@ -115,16 +113,16 @@ pub view_fields : (frame : Bytes) (kind : ℕ) (part : Bytes) → Whole frame ki
 view_fields frame kind part whole view is = subst ViewFields (sym is) (fields_of_view (subst (Whole frame) view whole))
 
 -- An edit that is read is allowed.
-pub read_allowed : (kind : ℕ) (part : Bytes) (read : Edit) → read_edit kind part ≡ EditRead.Is read → edit_allowed read ≡ true
+pub read_allowed : (kind : ℕ) (part : Bytes) (read : Edit) → read_edit kind part ≡ Ok read → edit_allowed read ≡ true
 unfolding read_edit
 read_allowed kind part read e = go (angles_of_kind kind part) e
   where
-    go : (angles : Bool) → read_if angles (edit_of_kind kind part) ≡ EditRead.Is read → edit_allowed read ≡ true
+    go : (angles : Bool) → read_if angles (edit_of_kind kind part) ≡ Ok read → edit_allowed read ≡ true
     go true e = let (same, allowed) = only_allowed (edit_of_kind kind part) read e in subst (λ x. edit_allowed x ≡ true) same allowed
     go false e = cc
 
 -- A view that is read is fine, and is the words read.
-view_read_fine : (n : ℕ) (words : List ℕ) (read : ViewRead) → 1 ≤ length words → length words ≤ most_named → read ≡ view_read n words → read.reading ≡ Reading.Is
+view_read_fine : (n : ℕ) (words : List ℕ) (read : Result View ℕ) → 1 ≤ length words → length words ≤ most_named → read ≡ view_read n words → read.reading ≡ Reading.Is
     → (read.view ≡ view_of words) × FineView words
 unfolding view_read view_in_range view_repeats
 view_read_fine n words read least most e is = go (view_in_range n words) (distinct words) refl refl e
@@ -133,7 +131,7 @@ view_read_fine n words read least most e is = go (view_in_range n words) (distin
     refused number other = let clash : false ≡ true = cc in false≢true clash
 
     go : (range once : Bool) → view_in_range n words ≡ range → distinct words ≡ once
-        → read ≡ cond range (cond (not once) (read_as (Reading.Refused 11) []) (read_as Reading.Is words)) (read_as (Reading.Refused 10) [])
+        → read ≡ cond range (cond (not once) (Err 11) (Ok (view_of words))) (Err 10)
         → (read.view ≡ view_of words) × FineView words
     go true true r o same =
         let (counted, (inside, u)) = split (eqb n (length words) ∷ all_in_book words ∷ []) r in
@@ -141,7 +139,7 @@ view_read_fine n words read least most e is = go (view_in_range n words) (distin
     go true false r o same = absurd (refused 11 (λ i. (same i).reading))
     go false once r o same = absurd (refused 10 (λ i. (same i).reading))
 
-pub view_read_opens : (part : Bytes) (read : ViewRead) → ViewFields part → read ≡ view_read (number16 part 2) (view_words_in part) → read.reading ≡ Reading.Is
+pub view_read_opens : (part : Bytes) (read : Result View ℕ) → ViewFields part → read ≡ view_read (number16 part 2) (view_words_in part) → read.reading ≡ Reading.Is
     → (read.view ≡ view_of (words_named read.view)) × FineView (words_named read.view)
 view_read_opens part read fields e is =
     let many = named_many part fields in
@@ -172,28 +170,28 @@ left_opened result before after team slot ticket opened answer out at place outp
 }
 
 -- An edit read, and a view.
-pub edit_opened : (ticket opened : Ticket) (ranks : Ranks) (edit : Edit) (n : ℕ) → opened ≡ opened_ticket ranks edit → n ≡ target_count edit → settled_with opened (Answer.Standing n) ≡ open_settled ticket ranks (EditRead.Is edit)
+pub edit_opened : (ticket opened : Ticket) (ranks : Ranks) (edit : Edit) (n : ℕ) → opened ≡ opened_ticket ranks edit → n ≡ target_count edit → settled_with opened (Answer.Standing n) ≡ open_settled ticket ranks (Ok edit)
 unfolding open_settled
 edit_opened ticket opened ranks edit n is counted = λ i. settled_with (is i) (Answer.Standing (counted i))
 
-pub edit_refused : (ticket : Ticket) (ranks : Ranks) (number : ℕ) → settled_with ticket (Answer.Refused number) ≡ open_settled ticket ranks (EditRead.Refused number)
+pub edit_refused : (ticket : Ticket) (ranks : Ranks) (number : ℕ) → settled_with ticket (Answer.Refused number) ≡ open_settled ticket ranks (Err number)
 unfolding open_settled
 edit_refused ticket ranks number = refl
 
-pub view_opened : (ticket opened : Ticket) (ranks : Ranks) (read : ViewRead) → read.reading ≡ Reading.Is → opened ≡ opened_view ranks (words_named read.view) → settled_with opened (Answer.Standing read.view.n) ≡ view_settled ticket ranks read
+pub view_opened : (ticket opened : Ticket) (ranks : Ranks) (read : Result View ℕ) → read.reading ≡ Reading.Is → opened ≡ opened_view ranks (words_named read.view) → settled_with opened (Answer.Standing read.view.n) ≡ view_settled ticket ranks read
 unfolding view_settled
 view_opened ticket opened ranks read is opens = (λ i. settled_with (opens i) (Answer.Standing read.view.n)) ∙ ap (reading_settled ticket ranks read.view) (sym is)
 
-pub view_refused : (ticket : Ticket) (ranks : Ranks) (read : ViewRead) (number : ℕ) → read.reading ≡ Reading.Refused number → settled_with ticket (Answer.Refused number) ≡ view_settled ticket ranks read
+pub view_refused : (ticket : Ticket) (ranks : Ranks) (read : Result View ℕ) (number : ℕ) → read.reading ≡ Reading.Refused number → settled_with ticket (Answer.Refused number) ≡ view_settled ticket ranks read
 unfolding view_settled
 view_refused ticket ranks read number is = ap (reading_settled ticket ranks read.view) (sym is)
 
 -- A refused frame, and a look.
-pub refused_by : (words : Words) (ticket : Ticket) (ranks : Ranks) (frame : Bytes) (number : ℕ) → settled_with ticket (Answer.Refused number) ≡ (settled_by words ticket ranks frame (Aim.Refused number)).0
+pub refused_by : (words : Words) (ticket : Ticket) (ranks : Ranks) (frame : Bytes) (number : ℕ) → settled_with ticket (Answer.Refused number) ≡ (settled_by words ticket ranks frame (Err number)).0
 unfolding settled_by
 refused_by words ticket ranks frame number = refl
 
-pub look_by : (words : Words) (ticket : Ticket) (ranks : Ranks) (frame : Bytes) → settled_with ticket (look_answer words (number16 (part_after_kind frame) 0)) ≡ (settled_by words ticket ranks frame Aim.Look).0
+pub look_by : (words : Words) (ticket : Ticket) (ranks : Ranks) (frame : Bytes) → settled_with ticket (look_answer words (number16 (part_after_kind frame) 0)) ≡ (settled_by words ticket ranks frame (Ok Aim.Look).0
 unfolding settled_by look_settled
 look_by words ticket ranks frame = refl
 
@@ -244,8 +242,8 @@ pub settled_so : {first second : Settled} {before after : List ℕ} {team : ℕ}
 settled_so {first} {second} {before} {after} {team} {slot} {opened} {out} {at} {output} is by = subst (λ (r : Settled). OpenedAs r before after team slot opened out at output) is by
 
 -- and by the aim that it was found to have.
-pub aimed_so : (words : Words) (targets : List ℕ) (ranks : Ranks) (frame : Bytes) (slot : Slot.Ticket) {first second : Aim} {after : List ℕ} {opened : Opened} {out : Bytes} {at : ℕ} {output : Bytes} → first ≡ second
+pub aimed_so : (words : Words) (targets : List ℕ) (ranks : Ranks) (frame : Bytes) (slot : Slot.Ticket) {first second : Result Aim ℕ} {after : List ℕ} {opened : Opened} {out : Bytes} {at : ℕ} {output : Bytes} → first ≡ second
     → OpenedAs (settled_by words (gathered targets (slot_of second) slot) ranks frame second).0 targets after (slot_of second) slot opened out at output
     → OpenedAs (settled_by words (gathered targets (slot_of first) slot) ranks frame first).0 targets after (slot_of first) slot opened out at output
 aimed_so words targets ranks frame slot {first} {second} {after} {opened} {out} {at} {output} is by =
-    subst (λ (a : Aim). OpenedAs (settled_by words (gathered targets (slot_of a) slot) ranks frame a).0 targets after (slot_of a) slot opened out at output) (sym is) by
+    subst (λ (a : Result Aim ℕ). OpenedAs (settled_by words (gathered targets (slot_of a) slot) ranks frame a).0 targets after (slot_of a) slot opened out at output) (sym is) by

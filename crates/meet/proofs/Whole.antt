@@ -1,4 +1,5 @@
 -- The whole list, part by part: the number of legs, the legs, the number of pairs, the pairs.
+use Rattle.std.specs.Prelude.{Ok, Err}
 use Prim.Native.Nat.{ℕ, ◌+◌, ◌≤◌, ◌<◌}
 use mathlib.Core.Path.{◌≡◌, refl, sym, ap, ◌∙◌}
 use mathlib.Core.List.{List, [], ◌∷◌, ◌++◌, append-nil}
@@ -12,7 +13,6 @@ use Rattle.words.specs.Words.{Words, words_in_book}
 use Rattle.plain.specs.Plain.{Plain}
 use Rattle.soundness.specs.Checking.{is_sound}
 use Rattle.soundness.specs.InWords.{plain_in}
-use Rattle.meeting.specs.declared.Met.TheVariants.{Written, Refused}
 use Rattle.meeting.specs.Meeting.{legs_at, pairs_of, listed_words, pair_words, station_words, station_list, at_front, meeting_of}
 use Rattle.meeting.specs.Statements.{longest_list}
 use Rattle.meeting.proofs.Telling.{sound_written}
@@ -83,10 +83,10 @@ module _ (station : ℕ) (plain : Plain) (counts : List ℕ) (size : Size) (coun
 
 -- The answer over a sound book, by whether its list has room.
 module _ (words : Words) (station : ℕ) (out : Words) (whole : length words ≡ words_in_book) (sound : is_sound words ≡ true) where
-  pub refused_21 : length out < length (station_list words station) → meeting_of words station out ≡ (Refused 21, out)
+  pub refused_21 : length out < length (station_list words station) → meeting_of words station out ≡ (Err 21, out)
   refused_21 short = sound_written words station out whole sound ∙ rw (lt-ltb (length out) (length (station_list words station)) short)
 
-  pub list_out : length (station_list words station) ≤ length out → meeting_of words station out ≡ (Written (length (station_list words station)), at_front out (station_list words station))
+  pub list_out : length (station_list words station) ≤ length out → meeting_of words station out ≡ (Ok (length (station_list words station)), at_front out (station_list words station))
   list_out long = sound_written words station out whole sound ∙ rw (le-ltb (length out) (length (station_list words station)) long)
 
 -- The words of the list of a sound book are few.

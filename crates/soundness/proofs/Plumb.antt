@@ -1,4 +1,5 @@
 -- A plumb leg with a compass other than 0 stands in no plain book, so the answer to its words is no.
+use Rattle.std.specs.Prelude.{Ok}
 use Prim.Native.Nat.{ℕ, ◌+◌, ◌*◌, ◌≤◌, ◌<◌}
 use mathlib.Core.Path.{◌≡◌, refl, sym, ap, ◌∙◌}
 use mathlib.Core.Bool.{Bool, true, false}
@@ -18,7 +19,6 @@ use Rattle.plain.proofs.Figures.{leg_in_range_lem}
 use Rattle.plain.proofs.OneHome.{value_leg}
 use Rattle.plain.proofs.Lists.{leg_words_lem, fair_of}
 use Rattle.plain.proofs.LaidOut.{words_follow_layout}
-use Rattle.soundness.specs.declared.Checked.TheVariants.{No}
 use Rattle.soundness.specs.Checking.{is_sound}
 use Rattle.soundness.specs.Soundness.{OfSomePlainBook, PlumbCompassIsUnsound}
 use Rattle.soundness.specs.Answering.{check_of}
@@ -55,6 +55,6 @@ plumb_compass_is_unsound words room leg distance compass clino whole long least 
         let read = reads plain sound leg least (omega (arith, same)) in
         both_ways read.0 _ read.1 read.2 (ap (reading_of read.0) same ∙ plumb_compass_reads_as_none read.0 distance compass clino distance_fits compass_fits plumb other)
 
-    by_check : (b : Bool) → is_sound words ≡ b → check_of words room ≡ No
+    by_check : (b : Bool) → is_sound words ≡ b → check_of words room ≡ Ok false
     by_check true e = absurd (never (recovered FourWords words e))
     by_check false e = says_no words room whole long e

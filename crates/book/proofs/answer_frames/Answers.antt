@@ -1,4 +1,5 @@
 -- `book::answer_frames` meets its contract. The loop's invariant: what the definition makes of what is left is what it makes of the whole.
+use Rattle.std.specs.Prelude.{Result}
 use native.Mathlib.Omega.{arith}
 use Prim.Native.Nat.{ℕ, ◌-◌, ◌<◌}
 use mathlib.Core.Path.{◌≡◌, refl, sym, subst, ◌∙◌}
@@ -51,7 +52,7 @@ step_turn c =
       bytes = each_byte _ (λ (k : ℕ). omega (arith, c.shared_slice_known-2-1.given k));
       size = step_bytes;
       ahead = (step_inside c).0;
-      aim = Aim.Team step_kind (team_at c);
+      aim = Ok (Aim.Team step_kind (team_at c));
       aimed = (step_inside c).1;
       aim_known = (step_inside c).2;
     }
@@ -83,7 +84,7 @@ abbrev frame_there : In-Other → Bytes
 frame_there c = frame_at c.args.input.now c.loop-stop.at (size_at c)
 
 -- The turn of a frame whose aim was told.
-abbrev other_turn : (c : In-Other) (aim : Aim) → (aim ≡ aim_of (frame_there c)) × AimKnown (frame_there c) aim → Turn
+abbrev other_turn : (c : In-Other) (aim : Result Aim ℕ) → (aim ≡ aim_of (frame_there c)) × AimKnown (frame_there c) aim → Turn
 other_turn c aim told =
     let args = c.args in
     let loop = c.loop-stop in
@@ -108,7 +109,7 @@ other_turn c aim told =
     }
 
 -- It is no team's step.
-no_step : (c : In-Other) (aim : Aim) → (aim ≡ aim_of (frame_there c)) × AimKnown (frame_there c) aim → NoStep aim
+no_step : (c : In-Other) (aim : Result Aim ℕ) → (aim ≡ aim_of (frame_there c)) × AimKnown (frame_there c) aim → NoStep aim
 no_step c aim told =
     other_than_step c.args.input.now c.loop-stop.at (length c.loop-stop.out - c.loop-stop.filled) (size_at c) aim (sym c.next_at-next.ensures.0 ∙ c.in-Other.is) told.0
 

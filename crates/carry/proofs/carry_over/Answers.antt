@@ -1,9 +1,9 @@
 -- `carry::carry_over` meets its contract: the checks are made in their order, and only then is anything written.
+use Rattle.std.specs.Prelude.{Ok}
 use mathlib.Core.Path.{sym, ap, ◌∙◌}
 use lib.ListN.{length}
 use Rattle.words.specs.Words.{words_in_book, last_leg}
 use Rattle.tickets.specs.Table.{table_of}
-use Rattle.calls.specs.declared.Outcome.TheVariants.{Done}
 use Rattle.carrying.proofs.Carrying.{length_from}
 use Rattle.carrying.proofs.Answers.{whole_right, old_wrong, second_wrong, refused_1, refused_14, refused_15, refused_16, done_by_lem}
 use Rattle.carry.specs.Writing.{moved_word, newers_set}
@@ -61,5 +61,5 @@ returns c =
     let none = sym (c.any_stands.ensures args.tickets.targets) ∙ c.if-any_stands.false in
     let sound = sym c.is_sound_old.ensures ∙ c.if-not-is_sound_old.false in
     let fits = sym c.has_leg_above.ensures ∙ c.if-has_leg_above.false in
-    (λ i. (Done, (c.set_newers.ensures ∙ ap (newers_set old last_leg) c.move_words.ensures ∙ old_written old sound fits) i))
+    (λ i. (Ok tt, (c.set_newers.ensures ∙ ap (newers_set old last_leg) c.move_words.ensures ∙ old_written old sound fits) i))
     ∙ done_by_lem old args.second.now (table_of args.tickets) right none sound fits

@@ -1,4 +1,5 @@
 -- `dispatch::aim_by_kind` meets its contract: a look, a team below 16, or refusal 6.
+use Rattle.std.specs.Prelude.{Ok}
 use mathlib.Core.Path.{sym, ap, subst, ◌∙◌}
 use Prim.Native.Nat.{ℕ, ◌≤◌, ◌<◌}
 use lib.ListN.{length}
@@ -26,7 +27,7 @@ returns-then-team c =
     let team = c.read16-team.ensures.0 ∙ ap team_in c.part_after_kind-part.ensures in
     let other = c.if-kind-eq-LOOK.false in
     let below : team_in (part_after_kind frame) < team_count = subst (λ (t : ℕ). t < team_count) team c.if-team.true in (
-      ap (Aim.Team kind) team ∙ aim_team frame kind other below,
+      ap (λ (t : ℕ). Ok (Aim.Team kind t)) team ∙ aim_team frame kind other below,
       (c.requires, other, c.if-team.true),
     )
 

@@ -1,10 +1,10 @@
 -- `meet::meet` meets its contract: the checks are made in their order, the size is known, and only then is anything written.
+use Rattle.std.specs.Prelude.{Ok}
 use mathlib.Core.Path.{sym, ap, ◌∙◌}
 use native.Mathlib.Omega.{arith}
 use lib.ListN.{length}
 use Rattle.words.specs.declared.LegLayout.TheVariants.{FourWords}
 use Rattle.soundness.specs.InWords.{plain_in}
-use Rattle.meeting.specs.declared.Met.TheVariants.{Written}
 use Rattle.meeting.specs.Meeting.{station_list, at_front}
 use Rattle.meeting.proofs.Telling.{refused_1, refused_15}
 use Rattle.stations.specs.Counting.{sum_of}
@@ -72,6 +72,6 @@ returns c =
     let sound = sym c.is_plain.ensures ∙ c.if-not-is_plain.false in
     let long = list_length_lem args.station (plain_in FourWords book) _ _ c.counts_at-counts.ensures c.size_of-size.ensures in
     let list = station_list book args.station in
-    ◌∙◌ {b = (Written (length list), at_front args.out.now list)}
-    (λ i. (Written (c.write_list-end.ensures.0 i), c.write_list-end.ensures.1 i))
+    ◌∙◌ {b = (Ok (length list), at_front args.out.now list)}
+    (λ i. (Ok (c.write_list-end.ensures.0 i), c.write_list-end.ensures.1 i))
     (sym (list_out book args.station args.out.now c.if-book-ne-WORDS.false sound (omega (arith, long, c.if-out-words.false))))

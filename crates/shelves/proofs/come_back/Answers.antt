@@ -1,6 +1,6 @@
 -- `shelves::come_back` meets its contract: by its checks, refused or come back.
+use Rattle.std.specs.Prelude.{Ok}
 use mathlib.Core.Path.{◌≡◌, ap, ◌∙◌}
-use Rattle.calls.specs.declared.Outcome.TheVariants.{Done}
 use Rattle.calls.specs.Outcomes.{outcome_of}
 use Rattle.calls.specs.Shelves.{back_refusal}
 use Rattle.tickets.specs.Table.{table_of}
@@ -20,9 +20,9 @@ returns-in_default c =
 
 pub take_from-requires : goal.take_from-requires
 take_from-requires c =
-    let (whole, long, inside) = back_right _ _ _ _ _ _ (checks_agree (goal.at.take_from-requires c).After-checked-outcome) c.in-Done.is in
+    let (whole, long, inside) = back_right _ _ _ _ _ _ (checks_agree (goal.at.take_from-requires c).After-checked-outcome) c.in-Ok tt.is in
     (long, whole, inside)
 
 pub returns : goal.returns
 returns c =
-    (λ i. (Done, c.take_from.ensures i)) ∙ back_done _ _ _ _ _ _ (checks_agree (goal.at.returns c).After-checked-outcome) c.in-Done.is
+    (λ i. (Ok tt, c.take_from.ensures i)) ∙ back_done _ _ _ _ _ _ (checks_agree (goal.at.returns c).After-checked-outcome) c.in-Ok tt.is

@@ -1,10 +1,10 @@
 -- `shelves::fill` meets its contract: by its checks, refused or kept.
+use Rattle.std.specs.Prelude.{Ok}
 use mathlib.Core.Path.{◌≡◌, ap, ◌∙◌}
 use mathlib.Core.Bool.{true}
 use lib.Dec.{leb}
 use lib.ListN.{set}
 use Rattle.words.specs.Words.{shelf_count}
-use Rattle.calls.specs.declared.Outcome.TheVariants.{Done}
 use Rattle.calls.specs.Outcomes.{outcome_of}
 use Rattle.calls.specs.Shelves.{fill_refusal}
 use Rattle.tickets.specs.Table.{table_of}
@@ -24,14 +24,14 @@ returns-in_default c =
 
 pub put_on-requires : goal.put_on-requires
 put_on-requires c =
-    let (whole, long, inside) = fill_right _ _ _ c.args.filled.now _ _ (checks_agree (goal.at.put_on-requires c).After-checked-outcome) c.in-Done.is in
+    let (whole, long, inside) = fill_right _ _ _ c.args.filled.now _ _ (checks_agree (goal.at.put_on-requires c).After-checked-outcome) c.in-Ok tt.is in
     (long, whole, inside)
 
 pub bounds-filled-shelf : goal.bounds-filled-shelf
 bounds-filled-shelf c =
-    (fill_right _ _ _ c.args.filled.now _ _ (checks_agree (goal.at.bounds-filled-shelf c).After-checked-outcome) c.in-Done.is).2
+    (fill_right _ _ _ c.args.filled.now _ _ (checks_agree (goal.at.bounds-filled-shelf c).After-checked-outcome) c.in-Ok tt.is).2
 
 pub returns : goal.returns
 returns c =
-    (λ i. (Done, c.put_on.ensures i, set c.args.filled.now c.args.shelf true))
-    ∙ fill_done _ _ _ c.args.filled.now _ _ (checks_agree (goal.at.returns c).After-checked-outcome) c.in-Done.is
+    (λ i. (Ok tt, c.put_on.ensures i, set c.args.filled.now c.args.shelf true))
+    ∙ fill_done _ _ _ c.args.filled.now _ _ (checks_agree (goal.at.returns c).After-checked-outcome) c.in-Ok tt.is
