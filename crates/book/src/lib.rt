@@ -5,7 +5,9 @@ ghost use Rattle.std.specs.Prelude.{◌≡◌, Bool, true, ℕ, ◌≤◌, ◌<�
 ghost use Rattle.words.specs.Words.{words_in_book};
 ghost use Rattle.legs.specs.Positions.{Accepted};
 ghost use Rattle.tickets.specs.Table.{table_with, table_of};
-ghost use Rattle.calls.specs.Call.{reply_of, call_of};
+ghost use Rattle.frames.specs.Refusals.{numbered, refusal_in};
+ghost use Rattle.calls.specs.Call.{call_of};
+ghost use Rattle.calls.specs.Returned.{reply_of, returned_refusal};
 ghost use Rattle.calls.specs.Stream.{streamed, streamed_of, stream_from, stream_of};
 ghost use Rattle.calls.specs.Way.{AimKnown, slot_of, settled_by};
 ghost use Rattle.replies.specs.Leaving.{RoomAt};
@@ -23,13 +25,15 @@ use tickets::{Ticket, Tickets};
 use words::Limits;
 
 // Whether a frame is a team's step.
-fn is_step(aim: Aim) -> bool
-    ensures { result ≡ is_step_by aim }
+fn is_step(aim: Result<Aim, Refusal>) -> bool
+    ensures { result ≡ is_step_by (numbered aim) }
 {
+    let Ok(aim) = aim else {
+        return false;
+    };
     match aim {
-        Aim::Refused(number) => false,
         Aim::Look => false,
-        Aim::Team(kind, team) => kind == Kind::STEP,
+        Aim::Team(kind, _) => kind == Kind::STEP,
     }
 }
 
@@ -41,11 +45,11 @@ fn answer(
     ticket: Ticket,
     slot: usize,
     frame: &[u8],
-    aim: Aim,
+    aim: Result<Aim, Refusal>,
     out: &mut [u8],
 ) -> Left
-    requires { (length book.old ≡ words_in_book) × AimKnown frame.now aim × (slot ≡ slot_of aim) × Accepted ranks.now × RoomAt out.old 0 }
-    ensures left { SettledAs (settled_by book.old (gathered targets.old slot ticket) ranks.now frame.now aim) targets.new slot result.ticket book.new out.old 0 result.filled out.new }
+    requires { (length book.old ≡ words_in_book) × AimKnown frame.now (numbered aim) × (slot ≡ slot_of (numbered aim)) × Accepted ranks.now × RoomAt out.old 0 }
+    ensures left { SettledAs (settled_by book.old (gathered targets.old slot ticket) ranks.now frame.now (numbered aim)) targets.new slot result.ticket book.new out.old 0 result.filled out.new }
     ensures others { ElsewhereSame targets.old targets.new slot }
 {
     if is_step(aim) {
@@ -67,11 +71,11 @@ fn answer(
 }
 
 // What is returned where nothing is written.
-fn turned_away(tickets: Tickets, number: usize) -> Reply
-    ensures { (result.written ≡ number) × (result.tickets ≡ tickets) }
+fn turned_away(tickets: Tickets, refusal: Refusal) -> Reply
+    ensures { (result.written ≡ Err refusal) × (result.tickets ≡ tickets) }
 {
     Reply {
-        written: number,
+        written: Err(refusal),
         tickets: tickets,
     }
 }
@@ -84,16 +88,17 @@ pub fn call(
     frame: &[u8],
     out: &mut [u8],
 ) -> Reply
-    ensures { (reply_of result, book.new, out.new) ≡ call_of book.old (table_of tickets) ranks.now frame.now out.old }
+    ensures all { (reply_of result, book.new, out.new) ≡ call_of book.old (table_of tickets) ranks.now frame.now out.old }
+    ensures refusal { refusal_in (numbered result.written) ≡ returned_refusal book.old ranks.now out.old }
 {
     if book.len() != Limits::WORDS {
-        return turned_away(tickets, Refusal::BOOK);
+        return turned_away(tickets, Refusal::Book);
     }
     if !ranks::is_permutation(ranks) {
-        return turned_away(tickets, Refusal::RANKS);
+        return turned_away(tickets, Refusal::Ranks);
     }
     if out.len() < Answer::LONGEST {
-        return turned_away(tickets, Refusal::OUTPUT);
+        return turned_away(tickets, Refusal::Output);
     }
     let aim = dispatch::aim_of(frame);
     let slot = dispatch::slot_of(aim);
@@ -111,7 +116,7 @@ pub fn call(
     let after = left.ticket;
     tickets.slots[slot] = after;
     Reply {
-        written: left.filled,
+        written: Ok(left.filled),
         tickets: tickets,
     }
 }
@@ -180,10 +185,9 @@ fn answer_frames(
     let mut at: usize = 0;
     let mut filled: usize = 0;
     loop {
-        let next = dispatch::next_at(input, at, out.len() - filled);
-        match next {
-            Ahead::End(stop) => return stopped(table_with(slots, targets), at, filled, stop),
-            Ahead::Step(team) => {
+        match dispatch::next_at(input, at, out.len() - filled) {
+            Err(stop) => return stopped(table_with(slots, targets), at, filled, stop),
+            Ok(Ahead::Step(team)) => {
                 at += Frame::STEP;
                 let slot = team as usize;
                 let tried = quick::try_quick(book, &targets, slots[slot], slot, quick[slot]);
@@ -200,7 +204,7 @@ fn answer_frames(
                 quick[slot] = quick_of(after, known);
                 filled = left.filled;
             }
-            Ahead::Other(size) => {
+            Ok(Ahead::Other(size)) => {
                 let frame = &input[at..at + size];
                 at += size;
                 let aim = dispatch::aim_of(frame);

@@ -2,12 +2,13 @@
 // calls; the code stands in the crate book.
 #![tactic(auto)]
 
+use frames::Refusal;
 use tickets::Tickets;
 
-// What the call returns: the bytes written (1, 13 or 2 for those refusals), and the tickets.
+// What the call returns: the bytes written, or the refusal that is returned and written nowhere; and the tickets.
 #[derive(Clone, Copy)]
 pub struct Reply {
-    pub written: usize,
+    pub written: Result<usize, Refusal>,
     pub tickets: Tickets,
 }
 
@@ -36,11 +37,4 @@ pub struct Streamed {
     pub consumed: usize,
     pub written: usize,
     pub stop: Stop,
-}
-
-// The bytes of the next frame, or why there is none.
-#[derive(Clone, Copy)]
-pub enum Next {
-    Frame(usize),
-    End(Stop),
 }

@@ -5,12 +5,12 @@ ghost use Rattle.std.specs.Prelude.{◌≡◌, true, ℕ, ◌≤◌, ◌<◌, le
 ghost use Rattle.words.specs.declared.LegLayout.TheVariants.{ThreeWords};
 ghost use Rattle.words.specs.Words.{words_in_book, last_leg};
 ghost use Rattle.tickets.specs.Table.{table_of};
+ghost use Rattle.frames.specs.Refusals.{numbered};
 ghost use Rattle.soundness.specs.Checking.{is_sound_in};
 ghost use Rattle.soundness.specs.InWords.{plain_in};
 ghost use Rattle.carrying.specs.Carrying.{leg_above, words_from, carry_of};
 ghost use Rattle.carry.specs.Writing.{moved_word, with_newer, newers_set, LinksFit};
 
-use calls::Outcome;
 use frames::Refusal;
 use making::any_stands;
 use sound::{Scratch, is_sound};
@@ -99,28 +99,26 @@ fn has_leg_above(old: &[u64]) -> bool
 
 // Makes the second book the layout in force of the old book's lists, unless it is refused. Nothing is written before all
 // checks are passed. A shelf that was filled from the old book still holds the old layout, and is not to be come back to.
-pub fn carry_over(old: &[u64], second: &mut [u64], tickets: Tickets) -> Outcome
-    ensures { (result, second.new) ≡ carry_of old.now second.old (table_of tickets) }
+pub fn carry_over(old: &[u64], second: &mut [u64], tickets: Tickets) -> Result<(), Refusal>
+    ensures { (numbered result, second.new) ≡ carry_of old.now second.old (table_of tickets) }
 {
     if old.len() != Limits::WORDS {
-        let number = Refusal::BOOK as u16;
-        return Outcome::Refused(number);
+        return Err(Refusal::Book);
     }
     if second.len() != Limits::WORDS {
-        let number = Refusal::BOOK as u16;
-        return Outcome::Refused(number);
+        return Err(Refusal::Book);
     }
     let slots = tickets.slots;
     if any_stands(slots) {
-        return Outcome::Refused(Refusal::TICKET_STANDS);
+        return Err(Refusal::TicketStands);
     }
     if !is_sound_old(old) {
-        return Outcome::Refused(Refusal::UNSOUND);
+        return Err(Refusal::Unsound);
     }
     if has_leg_above(old) {
-        return Outcome::Refused(Refusal::LEG_ABOVE);
+        return Err(Refusal::LegAbove);
     }
     move_words(old, second);
     set_newers(old, second);
-    Outcome::Done
+    Ok(())
 }

@@ -1,5 +1,6 @@
 -- The number that the papers give each refusal.
 use Rattle.std.specs.Prelude.{ℕ, Result, Ok, Err}
+use Rattle.std.proofs.Math.Option.{Option, none, some}
 use Rattle.frames.specs.declared.Refusal.{Refusal}
 use Rattle.frames.specs.declared.Refusal.TheVariants.{Book, Ranks, Output, Torn, Kind, Length, Team, Ticket, Standing, NoTicket, Range, Repeated, Scratch, TicketStands, Unsound, LegAbove, Store, Shelf, List}
 
@@ -28,3 +29,8 @@ refusal_number List = 21
 abbrev pub numbered : {A : Type 0} → Result A Refusal → Result A ℕ
 numbered (Ok given) = Ok given
 numbered (Err refusal) = Err (refusal_number refusal)
+
+-- The number of the refusal, where it is one.
+abbrev pub refusal_in : {A : Type 0} → Result A ℕ → Option ℕ
+refusal_in (Ok given) = none
+refusal_in (Err number) = some number

@@ -4,12 +4,12 @@
 ghost use Rattle.std.specs.Prelude.{◌≡◌, ◌≤◌, length};
 ghost use Rattle.words.specs.declared.LegLayout.TheVariants.{FourWords};
 ghost use Rattle.soundness.specs.InWords.{plain_in};
+ghost use Rattle.frames.specs.Refusals.{numbered};
 ghost use Rattle.meeting.specs.Meeting.{station_list, at_front, meeting_of};
 ghost use Rattle.stations.specs.Counting.{SoundBook, counts_at, size_of, list_length};
 
 use frames::Refusal;
 use listing::{write_legs, write_pairs};
-use meeting::Met;
 use sound::is_plain;
 use stations::{Size, counts_at, size_of};
 use words::Limits;
@@ -36,22 +36,21 @@ fn write_list(
 // Lists the legs at a station and the pairs of passages that meet there, unless it is refused. How long the list is, is
 // known by its counts before the first word is written. Each leg is read once by the check, once to be counted and once
 // to be written.
-pub fn meet(book: &[u64], station: u16, out: &mut [u64]) -> Met
-    ensures { (result, out.new) ≡ meeting_of book.now station out.old }
+pub fn meet(book: &[u64], station: u16, out: &mut [u64]) -> Result<usize, Refusal>
+    ensures { (numbered result, out.new) ≡ meeting_of book.now station out.old }
 {
     if book.len() != Limits::WORDS {
-        let number = Refusal::BOOK as u16;
-        return Met::Refused(number);
+        return Err(Refusal::Book);
     }
     if !is_plain(book) {
-        return Met::Refused(Refusal::UNSOUND);
+        return Err(Refusal::Unsound);
     }
     let counts = counts_at(book, station);
     let size = size_of(counts);
     let words = Size::NUMBERS + Size::ENTRY * (size.legs + size.pairs);
     if out.len() < words {
-        return Met::Refused(Refusal::LIST);
+        return Err(Refusal::List);
     }
     let end = write_list(book, station, counts, size, out);
-    Met::Written(end)
+    Ok(end)
 }

@@ -5,10 +5,10 @@ ghost use Rattle.std.specs.Prelude.{◌≡◌, length};
 ghost use Rattle.words.specs.Words.{passage_count};
 ghost use Rattle.legs.specs.Positions.{is_permutation};
 ghost use Rattle.tickets.specs.Table.{table_of};
+ghost use Rattle.frames.specs.Refusals.{numbered};
 ghost use Rattle.calls.specs.Loading.{load_of};
 ghost use Rattle.ranks.specs.Marking.{MarksOf};
 
-use calls::Outcome;
 use frames::Refusal;
 use making::any_stands;
 use tickets::Tickets;
@@ -68,21 +68,19 @@ pub fn load(
     tickets: Tickets,
     ranks: &mut [u16; Limits::PASSAGES as usize],
     loaded: &[u16],
-) -> Outcome
-    ensures { (result, ranks.new) ≡ load_of book.now (table_of tickets) ranks.old loaded.now }
+) -> Result<(), Refusal>
+    ensures { (numbered result, ranks.new) ≡ load_of book.now (table_of tickets) ranks.old loaded.now }
 {
     if book.len() != Limits::WORDS {
-        let number = Refusal::BOOK as u16;
-        return Outcome::Refused(number);
+        return Err(Refusal::Book);
     }
     if !is_permutation(loaded) {
-        let number = Refusal::RANKS as u16;
-        return Outcome::Refused(number);
+        return Err(Refusal::Ranks);
     }
     let slots = tickets.slots;
     if any_stands(slots) {
-        return Outcome::Refused(Refusal::TICKET_STANDS);
+        return Err(Refusal::TicketStands);
     }
     take_over(ranks, loaded);
-    Outcome::Done
+    Ok(())
 }

@@ -33,7 +33,7 @@ fn put_torn(out: &mut [u8], at: usize) -> usize
     ensures { PutAt out.old at (answer_frame (Refused 3)) result out.new }
 {
     let room = &mut out[at..];
-    let count = encoder::write_refused(room, Refusal::TORN);
+    let count = encoder::write_refused(room, Refusal::Torn.number());
     at + count
 }
 

@@ -13,7 +13,8 @@ use Rattle.words.specs.Words.{Words, words_in_book, passage_count, last_leg, new
 use Rattle.legs.specs.Legs.{place_in_range, measure_in_range}
 use Rattle.legs.specs.Reading.{is_place, is_measure, reading_of}
 use Rattle.soundness.specs.Checking.{may_follow, walk, walk_passage, walk_below, used_or_zero, rest_zero, ones_up_to, is_sound_in}
-use Rattle.soundness.specs.Answering.{scratch_bytes, check_of, refusal_in}
+use Rattle.frames.specs.Refusals.{refusal_in}
+use Rattle.soundness.specs.Answering.{scratch_bytes, check_of}
 use Rattle.soundness.proofs.Walking.{rest_off, sound_off, sound_by}
 use Rattle.soundness.proofs.Answering.{says_yes, says_no}
 use Rattle.soundness.proofs.Zeros.{zeros_after}

@@ -1,5 +1,5 @@
 -- `book::answer_frames` meets its contract. The loop's invariant: what the definition makes of what is left is what it makes of the whole.
-use Rattle.std.specs.Prelude.{Result}
+use Rattle.std.specs.Prelude.{Result, Ok}
 use native.Mathlib.Omega.{arith}
 use Prim.Native.Nat.{ℕ, ◌-◌, ◌<◌}
 use mathlib.Core.Path.{◌≡◌, refl, sym, subst, ◌∙◌}
@@ -30,7 +30,7 @@ use Rattle.frames.specs.Numbers.{Bytes}
 abbrev team_at : In-Step → ℕ
 team_at c = c.in-Step.team
 
-step_inside : (c : In-Step) → AheadInside c.args.input.now c.loop-stop.at (length c.loop-stop.out - c.loop-stop.filled) (Ahead.Step (team_at c))
+step_inside : (c : In-Step) → AheadInside c.args.input.now c.loop-stop.at (length c.loop-stop.out - c.loop-stop.filled) (Ok (Ahead.Step (team_at c)))
 step_inside c = subst (AheadInside c.args.input.now c.loop-stop.at (length c.loop-stop.out - c.loop-stop.filled)) c.in-Step.is c.next_at-next.ensures.1
 
 abbrev step_turn : In-Step → Turn
