@@ -1,4 +1,5 @@
 -- What a frame settles, case by case: each test of the code, and what the definitions of the way say there.
+use Rattle.edits.specs.declared.View.{View}
 use Rattle.std.specs.Prelude.{Result, Ok, Err}
 use Prim.Native.Nat.{ℕ, ◌≤◌, ◌<◌}
 use mathlib.Core.Path.{◌≡◌, refl, sym, ap, subst, ◌∙◌}
@@ -31,7 +32,7 @@ use Rattle.frames.proofs.Headers.{edit_kind_lem, other_kind, fields_of_kind, fie
 use Rattle.decoder.proofs.Decoded.{only_allowed}
 use Rattle.calls.proofs.Refusing.{named_many}
 use Rattle.calls.specs.declared.Aim.{Aim}
-use Rattle.calls.specs.Way.{Settled, AimKnown, slot_of, settled_with, look_answer, open_settled, reading_settled, view_settled, step_settled, new_settled, EditFields, team_settled, look_settled, settled_by}
+use Rattle.calls.specs.Way.{Settled, AimKnown, slot_of, settled_with, look_answer, open_settled, view_settled, step_settled, new_settled, EditFields, team_settled, look_settled, settled_by}
 use Rattle.replies.specs.Leaving.{LeftBy}
 use Rattle.handlers.specs.declared.Opened.{Opened}
 use Rattle.handlers.specs.Settling.{step_by, open_by, NoStep, SettledAs, slot_after, OpenedAs}
@@ -122,29 +123,24 @@ read_allowed kind part read e = go (angles_of_kind kind part) e
     go false e = cc
 
 -- A view that is read is fine, and is the words read.
-view_read_fine : (n : ℕ) (words : List ℕ) (read : Result View ℕ) → 1 ≤ length words → length words ≤ most_named → read ≡ view_read n words → read.reading ≡ Reading.Is
-    → (read.view ≡ view_of words) × FineView words
+view_read_fine : (n : ℕ) (words : List ℕ) (view : View) → 1 ≤ length words → length words ≤ most_named → view_read n words ≡ Ok view → (view ≡ view_of words) × FineView words
 unfolding view_read view_in_range view_repeats
-view_read_fine n words read least most e is = go (view_in_range n words) (distinct words) refl refl e
+view_read_fine n words view least most e = go (view_in_range n words) (distinct words) refl refl e
   where
-    refused : (number : ℕ) → read.reading ≡ Reading.Refused number → ⊥
-    refused number other = let clash : false ≡ true = cc in false≢true clash
-
     go : (range once : Bool) → view_in_range n words ≡ range → distinct words ≡ once
-        → read ≡ cond range (cond (not once) (Err 11) (Ok (view_of words))) (Err 10)
-        → (read.view ≡ view_of words) × FineView words
+        → cond {A = Result View ℕ} range (cond (not once) (Err 11) (Ok (view_of words))) (Err 10) ≡ Ok view
+        → (view ≡ view_of words) × FineView words
     go true true r o same =
         let (counted, (inside, u)) = split (eqb n (length words) ∷ all_in_book words ∷ []) r in
-        ((λ i. (same i).view), record { least = least; most = most; inside = inside; once = o })
-    go true false r o same = absurd (refused 11 (λ i. (same i).reading))
-    go false once r o same = absurd (refused 10 (λ i. (same i).reading))
+        (cc, record { least = least; most = most; inside = inside; once = o })
+    go true false r o same = cc
+    go false once r o same = cc
 
-pub view_read_opens : (part : Bytes) (read : Result View ℕ) → ViewFields part → read ≡ view_read (number16 part 2) (view_words_in part) → read.reading ≡ Reading.Is
-    → (read.view ≡ view_of (words_named read.view)) × FineView (words_named read.view)
-view_read_opens part read fields e is =
+pub view_read_opens : (part : Bytes) (view : View) → ViewFields part → view_read (number16 part 2) (view_words_in part) ≡ Ok view → (view ≡ view_of (words_named view)) × FineView (words_named view)
+view_read_opens part view fields e =
     let many = named_many part fields in
-    let (same, fine) = view_read_fine (number16 part 2) (view_words_in part) read many.0 many.1 e is in
-    let named : words_named read.view ≡ view_words_in part = ap words_named same ∙ words_named_lem (view_words_in part) in
+    let (same, fine) = view_read_fine (number16 part 2) (view_words_in part) view many.0 many.1 e in
+    let named : words_named view ≡ view_words_in part = ap words_named same ∙ words_named_lem (view_words_in part) in
     (same ∙ ap view_of (sym named), subst FineView (sym named) fine)
 
 -- What a frame leaves that opens no ticket: the slot and its targets as they were.
@@ -178,20 +174,20 @@ pub edit_refused : (ticket : Ticket) (ranks : Ranks) (number : ℕ) → settled_
 unfolding open_settled
 edit_refused ticket ranks number = refl
 
-pub view_opened : (ticket opened : Ticket) (ranks : Ranks) (read : Result View ℕ) → read.reading ≡ Reading.Is → opened ≡ opened_view ranks (words_named read.view) → settled_with opened (Answer.Standing read.view.n) ≡ view_settled ticket ranks read
+pub view_opened : (ticket opened : Ticket) (ranks : Ranks) (view : View) → opened ≡ opened_view ranks (words_named view) → settled_with opened (Answer.Standing view.n) ≡ view_settled ticket ranks (Ok view)
 unfolding view_settled
-view_opened ticket opened ranks read is opens = (λ i. settled_with (opens i) (Answer.Standing read.view.n)) ∙ ap (reading_settled ticket ranks read.view) (sym is)
+view_opened ticket opened ranks view opens = λ i. settled_with (opens i) (Answer.Standing view.n)
 
-pub view_refused : (ticket : Ticket) (ranks : Ranks) (read : Result View ℕ) (number : ℕ) → read.reading ≡ Reading.Refused number → settled_with ticket (Answer.Refused number) ≡ view_settled ticket ranks read
+pub view_refused : (ticket : Ticket) (ranks : Ranks) (number : ℕ) → settled_with ticket (Answer.Refused number) ≡ view_settled ticket ranks (Err number)
 unfolding view_settled
-view_refused ticket ranks read number is = ap (reading_settled ticket ranks read.view) (sym is)
+view_refused ticket ranks number = refl
 
 -- A refused frame, and a look.
 pub refused_by : (words : Words) (ticket : Ticket) (ranks : Ranks) (frame : Bytes) (number : ℕ) → settled_with ticket (Answer.Refused number) ≡ (settled_by words ticket ranks frame (Err number)).0
 unfolding settled_by
 refused_by words ticket ranks frame number = refl
 
-pub look_by : (words : Words) (ticket : Ticket) (ranks : Ranks) (frame : Bytes) → settled_with ticket (look_answer words (number16 (part_after_kind frame) 0)) ≡ (settled_by words ticket ranks frame (Ok Aim.Look).0
+pub look_by : (words : Words) (ticket : Ticket) (ranks : Ranks) (frame : Bytes) → settled_with ticket (look_answer words (number16 (part_after_kind frame) 0)) ≡ (settled_by words ticket ranks frame (Ok Aim.Look)).0
 unfolding settled_by look_settled
 look_by words ticket ranks frame = refl
 

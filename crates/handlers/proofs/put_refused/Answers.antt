@@ -8,4 +8,4 @@ use Rattle.handlers.proofs.put_refused.Goals as goal
 pub returns : goal.returns
 returns c =
     let sent = c.write_refused-count in
-    put_at c.args.out.now c.args.at (answer_frame (Answer.Refused c.args.number)) _ _ _ c.requires.inside c.requires.room sent.ensures refl c.out-1.given.1
+    rw (← c.number.ensures) (put_at c.args.out.now c.args.at (answer_frame (Answer.Refused c.number.result)) _ _ _ c.requires.inside c.requires.room sent.ensures refl c.out-1.given.1)

@@ -14,5 +14,5 @@ returns-then-word-lt-WORDS c =
 pub returns : goal.returns
 returns c =
     let sent = c.write_refused in
-    let shown = look_outside c.args.book.now c.args.word c.if-word-lt-WORDS.false in
+    let shown = ap Answer.Refused c.number.ensures ∙ look_outside c.args.book.now c.args.word c.if-word-lt-WORDS.false in
     (sent.ensures.0 ∙ ap (λ answer. written c.args.out.now (answer_frame answer)) shown, sent.ensures.1)
