@@ -112,7 +112,7 @@ other_than_step input at room size aim ahead aimed = by (next_at input at) ahead
     told (Ok Aim.Look) found e = (tt, ap size_in e)
     told (Ok (Aim.Team kind team)) found e = go (eqb kind step_kind) refl e
       where
-        go : (step : Bool) → eqb kind step_kind ≡ step → cond step (Ok (Ahead.Step team)) (Ok (Ahead.Other found)) ≡ Ok (Ahead.Other size) → (eqb kind step_kind ≡ false) × (found ≡ size)
+        go : (step : Bool) → eqb kind step_kind ≡ step → cond {A = Result Ahead Stop} step (Ok (Ahead.Step team)) (Ok (Ahead.Other found)) ≡ Ok (Ahead.Other size) → (eqb kind step_kind ≡ false) × (found ≡ size)
         go true is e = absurd (false≢true (ap others e))
         go false is e = (is, ap size_in e)
 

@@ -185,9 +185,12 @@ fn answer_frames(
     let mut at: usize = 0;
     let mut filled: usize = 0;
     loop {
-        match dispatch::next_at(input, at, out.len() - filled) {
+        let next = match dispatch::next_at(input, at, out.len() - filled) {
+            Ok(next) => next,
             Err(stop) => return stopped(table_with(slots, targets), at, filled, stop),
-            Ok(Ahead::Step(team)) => {
+        };
+        match next {
+            Ahead::Step(team) => {
                 at += Frame::STEP;
                 let slot = team as usize;
                 let tried = quick::try_quick(book, &targets, slots[slot], slot, quick[slot]);
@@ -204,7 +207,7 @@ fn answer_frames(
                 quick[slot] = quick_of(after, known);
                 filled = left.filled;
             }
-            Ok(Ahead::Other(size)) => {
+            Ahead::Other(size) => {
                 let frame = &input[at..at + size];
                 at += size;
                 let aim = dispatch::aim_of(frame);
