@@ -1,5 +1,5 @@
 -- "A check answers yes exactly when the words are those of some plain book."
-use Rattle.std.specs.Prelude.{ℕ, ◌+◌, ◌*◌, ◌/◌, ◌≤◌, ◌<◌, ◌≡◌, List, true, ◌↔◌, ◌≢◌, length, ℤ, Ok}
+use Rattle.std.specs.Prelude.{ℕ, ◌+◌, ◌*◌, ◌/◌, ◌≤◌, ◌<◌, ◌≡◌, List, true, ◌↔◌, ◌≢◌, length, ℤ, Ok, false}
 use Rattle.words.specs.Tests.{Every}
 use Rattle.words.specs.declared.LegLayout.{LegLayout}
 use Rattle.words.specs.declared.LegLayout.TheVariants.{FourWords}

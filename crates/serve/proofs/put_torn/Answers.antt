@@ -8,4 +8,4 @@ use Rattle.serve.proofs.put_torn.Goals as goal
 pub returns : goal.returns
 returns c =
     let sent = c.write_refused-count in
-    put_at c.args.out.now c.args.at (answer_frame (Refused 3)) _ _ _ c.requires.0 c.requires.1 sent.ensures refl c.out-1.given.1
+    rw (← c.number.ensures) (put_at c.args.out.now c.args.at (answer_frame (Refused c.number.result)) _ _ _ c.requires.0 c.requires.1 sent.ensures refl c.out-1.given.1)
