@@ -147,7 +147,7 @@ module _ {frame : Bytes} {length_field_lem kind : ℕ} (read : Untorn frame leng
   known_read : is_kind kind ≡ true → kind_unknown frame ≡ false
   known_read known = ap (λ (k : ℕ). not (is_kind k)) (sym read.is_kind_lem) ∙ ap not known
 
-  header_fits : is_kind kind ≡ true → length_fits kind length_field_lem ≡ true → (Ok kind ≡ header_of frame) × Whole frame kind
+  pub header_fits : is_kind kind ≡ true → length_fits kind length_field_lem ≡ true → (Ok kind ≡ header_of frame) × Whole frame kind
   header_fits known fits = (
     ap Ok read.is_kind_lem ∙ header_kind frame whole_count (known_read known) (length_due frame (as_read ∙ fits)),
     whole frame length_field_lem kind known read.head read.counted fits,
@@ -158,22 +158,11 @@ module _ {frame : Bytes} {length_field_lem kind : ℕ} (read : Untorn frame leng
       let some : 0 < length_field_lem = omega (arith, read.head, read.counted) in
       header_fits (due_known kind (λ none. omega (arith, some, due ∙ none))) (due_fits kind length_field_lem due some)
 
-  header_misfits : is_kind kind ≡ true → length_fits kind length_field_lem ≡ false → Err 5 ≡ header_of frame
+  pub header_misfits : is_kind kind ≡ true → length_fits kind length_field_lem ≡ false → Err 5 ≡ header_of frame
   header_misfits known misfits = header_wrong frame whole_count (known_read known) (other_length frame (as_read ∙ misfits))
 
-  -- A view's length varies.
-  pub header_view : kind ≡ view_kind → length_fits view_kind length_field_lem ≡ true → (Ok kind ≡ header_of frame) × Whole frame kind
-  header_view view fits = header_fits (ap is_kind view ∙ view_known) (ap (λ (k : ℕ). length_fits k length_field_lem) view ∙ fits)
-
-  pub header_no_view : kind ≡ view_kind → length_fits view_kind length_field_lem ≡ false → Err 5 ≡ header_of frame
-  header_no_view view misfits = header_misfits (ap is_kind view ∙ view_known) (ap (λ (k : ℕ). length_fits k length_field_lem) view ∙ misfits)
-
-  pub header_other : (kind ≡ view_kind → ⊥) → (length_field_lem ≡ length_of_kind kind → ⊥) → (length_of_kind kind ≡ 0 → ⊥) → Err 5 ≡ header_of frame
-  header_other no_view other some = header_misfits (due_known kind some) (fits_other kind length_field_lem no_view ∙ ne_eqb length_field_lem (length_of_kind kind) other)
-
-  pub header_no_kind : (kind ≡ view_kind → ⊥) → length_of_kind kind ≡ 0 → Err 4 ≡ header_of frame
-  header_no_kind no_view none =
-      header_unknown frame whole_count (kind_unknown_lem frame (ap length_of_kind (sym read.is_kind_lem) ∙ none) (λ view. no_view (read.is_kind_lem ∙ view)))
+  pub header_no_kind : is_kind kind ≡ false → Err 4 ≡ header_of frame
+  header_no_kind none = header_unknown frame whole_count (ap (λ (k : ℕ). not (is_kind k)) (sym read.is_kind_lem) ∙ ap not none)
 
 -- A step's frame is whole, and its kind is a step's.
 pub step_header : (frame : Bytes) → is_step frame ≡ true → (Ok step_kind ≡ header_of frame) × Whole frame step_kind

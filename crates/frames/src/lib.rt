@@ -2,7 +2,9 @@
 #![tactic(auto)]
 
 ghost use Rattle.std.specs.Prelude.{◌≡◌};
+ghost use Rattle.frames.specs.Requests.{view_kind, is_edit_kind, length_fits};
 ghost use Rattle.frames.specs.Refusals.{refusal_number};
+ghost use Rattle.frames.specs.Kinds.{kind_number, KindRead};
 
 use crate::numbers::Bits;
 use std::error::Error;
@@ -97,29 +99,87 @@ impl Length {
     pub const LOOK: u16 = 2 * Length::FIELD;
 }
 
-// The kinds of what is asked for.
-#[derive(Drop)]
-pub struct Kind {}
+// What a frame asks for, by its kind.
+#[derive(Clone, Copy, Debug, PartialEq, Eq)]
+pub enum Kind {
+    Add,
+    Correct,
+    Strike,
+    Move,
+    Step,
+    Look,
+    View,
+    // Add and Correct, compass and clino in degrees and minutes.
+    AddInMinutes,
+    CorrectInMinutes,
+}
 
 impl Kind {
-    pub const ADD: u16 = 1;
+    // A step's number stands in the number that its frame begins with, too.
+    const STEP: u16 = 5;
 
-    pub const CORRECT: u16 = 2;
+    // Whether it is an edit's.
+    pub fn is_edit(self) -> bool
+        ensures { result ≡ is_edit_kind (kind_number self) }
+    {
+        match self {
+            Kind::Step | Kind::Look | Kind::View => false,
+            _ => true,
+        }
+    }
 
-    pub const STRIKE: u16 = 3;
+    // Whether this is what its length field may say. All but a view have one length.
+    #[tactic(auto, unfolding(crate::specs::Requests::length_fits))]
+    pub fn fits(self, length: u16) -> bool
+        ensures { result ≡ length_fits (kind_number self) length }
+    {
+        match self {
+            Kind::Add => length == Length::ADD,
+            Kind::Correct => length == Length::CORRECT,
+            Kind::Strike => length == Length::STRIKE,
+            Kind::Move => length == Length::MOVE,
+            Kind::Step => length == Length::STEP,
+            Kind::Look => length == Length::LOOK,
+            Kind::View => fits_view(length),
+            Kind::AddInMinutes => length == Length::ADD_IN_MINUTES,
+            Kind::CorrectInMinutes => length == Length::CORRECT_IN_MINUTES,
+        }
+    }
+}
 
-    pub const MOVE: u16 = 4;
+// Whether the length field is a view's, which says how many words there are.
+fn fits_view(length: u16) -> bool
+    ensures { result ≡ length_fits view_kind length }
+{
+    let count = length as usize;
+    if count < Frame::BEFORE_WORDS + Frame::FIELD {
+        return false;
+    }
+    if Frame::BEFORE_WORDS + Frame::FIELD * Limits::NAMED < count {
+        return false;
+    }
+    count % Frame::FIELD == 0
+}
 
-    pub const STEP: u16 = 5;
+impl TryFrom<u16> for Kind {
+    type Error = Refusal;
 
-    pub const LOOK: u16 = 6;
+    ghost try_from_gives = { KindRead };
 
-    pub const VIEW: u16 = 7;
-
-    // Add and Correct, compass and clino in degrees and minutes.
-    pub const ADD_IN_MINUTES: u16 = 17;
-
-    pub const CORRECT_IN_MINUTES: u16 = 18;
+    fn try_from(number: u16) -> Result<Kind, Refusal> {
+        match number {
+            1 => Ok(Kind::Add),
+            2 => Ok(Kind::Correct),
+            3 => Ok(Kind::Strike),
+            4 => Ok(Kind::Move),
+            Kind::STEP => Ok(Kind::Step),
+            6 => Ok(Kind::Look),
+            7 => Ok(Kind::View),
+            17 => Ok(Kind::AddInMinutes),
+            18 => Ok(Kind::CorrectInMinutes),
+            _ => Err(Refusal::Kind),
+        }
+    }
 }
 
 // Why a frame or a call without a frame is refused, with the papers' numbers, in checking order.

@@ -1,7 +1,7 @@
--- `frames::head::fits_view` meets its contract: a view's length is bounded and even.
+-- `frames::fits_view` meets its contract: a view's length is bounded and even.
 use mathlib.Core.Path.{sym}
 use Rattle.frames.proofs.Headers.{view_short, view_long, view_even}
-use Rattle.frames.proofs.head.fits_view.Goals as goal
+use Rattle.frames.proofs.fits_view.Goals as goal
 
 pub returns-then-count : goal.returns-then-count
 returns-then-count c = sym (view_short _ c.if-count.true)
