@@ -19,7 +19,7 @@ use Rattle.tickets.proofs.Tables.{slot_gathered}
 use Rattle.frames.specs.Numbers.{Bytes}
 use Rattle.frames.specs.Requests.{step_kind}
 use Rattle.frames.specs.Answers.{answer_frame, longest_answer, written, room_in, PutAt}
-use Rattle.calls.specs.declared.Aim.{Aim}
+use Rattle.calls.specs.Way.{Aim}
 use Rattle.calls.specs.Call.{Reply, call_of}
 use Rattle.calls.specs.Way.{Settled, aim_of, slot_of, settled_by}
 use Rattle.calls.proofs.Sending.{call_by}

@@ -24,7 +24,7 @@ use Rattle.frames.specs.declared.Answer.TheVariants as Answer
 use Rattle.frames.specs.Numbers.{Bytes}
 use Rattle.frames.specs.Requests.{step_kind}
 use Rattle.frames.specs.Answers.{answer_frame, longest_answer, PutAt}
-use Rattle.calls.specs.declared.Aim.{Aim}
+use Rattle.calls.specs.Way.{Aim}
 use Rattle.calls.specs.Way.{Settled, AimKnown, aim_of, settled_by}
 use Rattle.calls.specs.Way as way
 use Rattle.calls.specs.declared.Stop.{Stop}

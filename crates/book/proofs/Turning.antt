@@ -18,7 +18,7 @@ use Rattle.tickets.proofs.MadeTables.{with_well_made}
 use Rattle.frames.specs.Numbers.{Bytes, are_bytes}
 use Rattle.frames.proofs.Bytes.{bytes_after}
 use Rattle.frames.specs.Answers.{answer_frame, PutAt}
-use Rattle.calls.specs.declared.Aim.{Aim}
+use Rattle.calls.specs.Way.{Aim}
 use Rattle.calls.specs.declared.Stop.TheVariants.{MoreInput}
 use Rattle.calls.specs.Way as way
 use Rattle.calls.specs.Way.{Settled, AimKnown, aim_of, settled_by}

@@ -4,7 +4,7 @@ use Rattle.words.specs.Words.{team_count}
 use Rattle.tickets.specs.declared.Ticket as Slot
 use Rattle.tickets.specs.Table.{no_slot}
 use Rattle.frames.specs.Requests.{step_kind}
-use Rattle.calls.specs.declared.Aim.{Aim}
+use Rattle.calls.specs.Way.{Aim}
 use Rattle.quick.specs.Quick.{quick_swaps}
 
 -- How many targets a ticket may have done and still go the fast way: none in a table that is not known to be well made.

@@ -9,7 +9,7 @@ ghost use Rattle.frames.specs.Refusals.{numbered, refusal_in};
 ghost use Rattle.calls.specs.Call.{call_of};
 ghost use Rattle.calls.specs.Returned.{reply_of, returned_refusal};
 ghost use Rattle.calls.specs.Stream.{streamed, streamed_of, stream_from, stream_of};
-ghost use Rattle.calls.specs.Way.{AimKnown, slot_of, settled_by};
+ghost use Rattle.calls.specs.Way.{aim_numbered, AimKnown, slot_of, settled_by};
 ghost use Rattle.replies.specs.Leaving.{RoomAt};
 ghost use Rattle.tickets.specs.Table.{gathered, ElsewhereSame};
 ghost use Rattle.handlers.specs.Settling.{SettledAs};
@@ -26,15 +26,15 @@ use words::Limits;
 
 // Whether a frame is a team's step.
 fn is_step(aim: Result<Aim, Refusal>) -> bool
-    ensures { result ≡ is_step_by (numbered aim) }
+    ensures { result ≡ is_step_by (aim_numbered aim) }
 {
     let Ok(aim) = aim else {
         return false;
     };
-    match aim {
-        Aim::Look => false,
-        Aim::Team(kind, _) => kind == Kind::STEP,
-    }
+    let Aim::Team(kind, _) = aim else {
+        return false;
+    };
+    matches!(kind, Kind::Step)
 }
 
 // What a frame leaves in its slot, the table not known to be well made, and its answer at the front of the output.
@@ -48,8 +48,8 @@ fn answer(
     aim: Result<Aim, Refusal>,
     out: &mut [u8],
 ) -> Left
-    requires { (length book.old ≡ words_in_book) × AimKnown frame.now (numbered aim) × (slot ≡ slot_of (numbered aim)) × Accepted ranks.now × RoomAt out.old 0 }
-    ensures left { SettledAs (settled_by book.old (gathered targets.old slot ticket) ranks.now frame.now (numbered aim)) targets.new slot result.ticket book.new out.old 0 result.filled out.new }
+    requires { (length book.old ≡ words_in_book) × AimKnown frame.now (aim_numbered aim) × (slot ≡ slot_of (aim_numbered aim)) × Accepted ranks.now × RoomAt out.old 0 }
+    ensures left { SettledAs (settled_by book.old (gathered targets.old slot ticket) ranks.now frame.now (aim_numbered aim)) targets.new slot result.ticket book.new out.old 0 result.filled out.new }
     ensures others { ElsewhereSame targets.old targets.new slot }
 {
     if is_step(aim) {

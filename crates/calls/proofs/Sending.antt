@@ -22,7 +22,7 @@ use Rattle.frames.specs.Requests.{part_after_kind, step_kind, look_kind, view_ki
 use Rattle.frames.specs.Answers.{answer_frame, longest_answer, written}
 use Rattle.frames.specs.Fields.{header_of, edit_read, read_edit, view_read}
 use Rattle.frames.proofs.Headers.{refused_tests}
-use Rattle.calls.specs.declared.Aim.{Aim}
+use Rattle.calls.specs.Way.{Aim}
 use Rattle.calls.proofs.Refusing.{not_returned}
 use Rattle.calls.specs.Call.{Reply, refusal_checks, refusal_of, Done, done_of, number, bytes, sent_of, written_by, call_of}
 use Rattle.calls.specs.Way.{Settled, aim_by, aim_of, slot_of, settled_with, look_settled, open_settled, view_settled, step_settled, new_settled, team_settled, settled_by, way_done, way_of}

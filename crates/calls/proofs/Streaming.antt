@@ -13,7 +13,7 @@ use Rattle.tickets.specs.Tickets.{Tickets, ticket_of, with_ticket}
 use Rattle.frames.specs.declared.Answer.{Answer}
 use Rattle.frames.specs.Numbers.{Bytes, number16}
 use Rattle.frames.specs.Answers.{answer_frame, longest_answer, written, room_in, with_room}
-use Rattle.calls.specs.declared.Aim.{Aim}
+use Rattle.calls.specs.Way.{Aim}
 use Rattle.calls.specs.declared.Stop.{Stop}
 use Rattle.calls.specs.declared.Stop.TheVariants.{MoreInput, OutputFull, BadLength, NoBook, NoRanks}
 use Rattle.calls.specs.Call.{Reply, call_of}

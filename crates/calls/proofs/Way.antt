@@ -27,7 +27,7 @@ use Rattle.frames.specs.Requests.{kind_field, part_after_kind, step_kind, look_k
 use Rattle.frames.specs.Answers.{longest_answer}
 use Rattle.frames.specs.Fields.{frame_torn, kind_unknown, length_wrong, angle_out_of_range, request_out_of_range, field_repeated, header_of, edit_read, read_edit, view_read}
 use Rattle.frames.proofs.Headers.{edit_kind_lem, other_kind, kind_tests, refused_tests, edit_asked, step_asked, look_asked, view_asked}
-use Rattle.calls.specs.declared.Aim.{Aim}
+use Rattle.calls.specs.Way.{Aim}
 use Rattle.calls.specs.Call.{team_unknown, own_ticket_badly_made, opens_over_ticket, step_without_ticket, refusal_checks, refusal_of, Done, done, request_done, refused_or, done_of}
 use Rattle.calls.proofs.Refusing.{first_from}
 use Rattle.calls.specs.Way.{aim_by, aim_of, slot_of, settled_with, look_settled, open_settled, view_settled, new_settled, team_settled, settled_by, way_done, way_of, WayIsCall}

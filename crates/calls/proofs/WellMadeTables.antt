@@ -26,7 +26,7 @@ use Rattle.frames.specs.Requests.{part_after_kind, step_kind, view_kind, length_
 use Rattle.frames.specs.Fields.{edit_read, read_edit, view_read, ViewFields, FieldsOf}
 use Rattle.frames.proofs.Asked.{edit_stations}
 use Rattle.frames.proofs.Bytes.{first_byte, bytes_after}
-use Rattle.calls.specs.declared.Aim.{Aim}
+use Rattle.calls.specs.Way.{Aim}
 use Rattle.calls.specs.Way.{Settled, AimKnown, settled_with, look_settled, open_settled, view_settled, step_settled, new_settled, team_settled, settled_by}
 use Rattle.calls.proofs.Refusing.{named_many, fine_view}
 

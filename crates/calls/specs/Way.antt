@@ -13,8 +13,25 @@ use Rattle.frames.specs.Numbers.{Bytes, number16}
 use Rattle.frames.specs.Requests.{part_after_kind, step_kind, look_kind, view_kind, length_of_kind, is_edit_kind, is_kind, team_in, view_words_in}
 use Rattle.frames.specs.Answers.{longest_answer}
 use Rattle.frames.specs.Fields.{header_of, read_edit, view_read, FieldsOf, Whole}
-use Rattle.calls.specs.declared.Aim.{Aim}
+use Rattle.calls.specs.declared.Aim as Code
+use Rattle.frames.specs.declared.Refusal.{Refusal}
+use Rattle.frames.specs.Refusals.{refusal_number}
+use Rattle.frames.specs.Kinds.{kind_number}
 use Rattle.calls.specs.Call.{Done, done, done_of}
+
+-- Where a frame that is not refused goes: to a look; or to a team, with the number of its kind.
+pub data Aim : Type 0 where
+  Look : Aim
+  Team : (kind team : ℕ) → Aim
+
+-- What the code's says, or the number of the refusal.
+abbrev pub aimed : Code.Aim → Aim
+aimed Code.Aim.Look = Aim.Look
+aimed (Code.Aim.Team kind team) = Aim.Team (kind_number kind) team
+
+abbrev pub aim_numbered : Result Code.Aim Refusal → Result Aim ℕ
+aim_numbered (Ok aim) = Ok (aimed aim)
+aim_numbered (Err refusal) = Err (refusal_number refusal)
 
 -- Where a frame goes: back, with the number of its refusal, 3 to 6; to a look; or to a team, with its kind.
 abbrev pub aim_by : Bytes → Result ℕ ℕ → Result Aim ℕ

@@ -2,7 +2,7 @@
 // calls; the code stands in the crate book.
 #![tactic(auto)]
 
-use frames::Refusal;
+use frames::{Kind, Refusal};
 use tickets::Tickets;
 
 // What the call returns: the bytes written, or the refusal that is returned and written nowhere; and the tickets.
@@ -16,7 +16,7 @@ pub struct Reply {
 #[derive(Clone, Copy)]
 pub enum Aim {
     Look,
-    Team(u16, u16),
+    Team(Kind, u16),
 }
 
 // Why a stream stopped: the rest is no whole frame yet; there is no room for an answer; a length field is too

@@ -10,6 +10,7 @@ ghost use Rattle.frames.specs.Requests.{strike_kind, move_kind, length_of_kind, 
 ghost use Rattle.frames.specs.Numbers.{number16};
 ghost use Rattle.frames.specs.Fields.{measure_size, edit_read, add_read, correct_read, read_edit, ViewFields, view_read};
 ghost use Rattle.frames.specs.Refusals.{numbered};
+ghost use Rattle.frames.specs.Kinds.{kind_number};
 
 use crate::fields::{
     field_from_one, field_up_to, measure_field, measure_in, measure_size, passage_field,
@@ -195,18 +196,18 @@ fn read_move(part: &[u8]) -> Result<Edit, Refusal>
 }
 
 // The edit of a frame whose kind is an edit's.
-pub fn read_edit(kind: u16, part: &[u8]) -> Result<Edit, Refusal>
-    requires { (is_edit_kind kind ≡ true) × (length part.now ≡ length_of_kind kind - 2) }
-    ensures { numbered result ≡ read_edit kind part.now }
+pub fn read_edit(kind: Kind, part: &[u8]) -> Result<Edit, Refusal>
+    requires { (is_edit_kind (kind_number kind) ≡ true) × (length part.now ≡ length_of_kind (kind_number kind) - 2) }
+    ensures { numbered result ≡ read_edit (kind_number kind) part.now }
 {
     match kind {
-        Kind::ADD | Kind::ADD_IN_MINUTES => read_add(kind == Kind::ADD_IN_MINUTES, part),
-        Kind::CORRECT | Kind::CORRECT_IN_MINUTES => read_correct(
-            kind == Kind::CORRECT_IN_MINUTES,
-            part,
-        ),
-        Kind::STRIKE => read_strike(part),
-        _ => read_move(part),
+        Kind::Add => read_add(false, part),
+        Kind::AddInMinutes => read_add(true, part),
+        Kind::Correct => read_correct(false, part),
+        Kind::CorrectInMinutes => read_correct(true, part),
+        Kind::Strike => read_strike(part),
+        Kind::Move => read_move(part),
+        Kind::Step | Kind::Look | Kind::View => unreachable!(),
     }
 }
 

@@ -14,7 +14,7 @@ use Rattle.frames.specs.Numbers.{Bytes}
 use Rattle.frames.specs.Requests.{part_after_kind, look_kind, view_kind, kinds, length_of_kind, is_kind, team_in}
 use Rattle.frames.specs.Fields.{Whole}
 use Rattle.frames.proofs.Headers.{each_row, kind_row, fields_of_kind, fields_of_view}
-use Rattle.calls.specs.declared.Aim.{Aim}
+use Rattle.calls.specs.Way.{Aim}
 use Rattle.calls.specs.Way.{aim_by, AimKnown, SlotKnown, slot_of}
 
 -- Where a whole frame goes.

@@ -18,7 +18,7 @@ use Rattle.frames.specs.Requests.{head_bytes, length_field, kind_field, part_aft
 use Rattle.frames.specs.Answers.{longest_answer}
 use Rattle.frames.specs.Fields.{longest_frame, frame_torn, kind_unknown, length_wrong, header_of, Whole}
 use Rattle.frames.proofs.Headers.{step_header, kind_tests}
-use Rattle.calls.specs.declared.Aim.{Aim}
+use Rattle.calls.specs.Way.{Aim}
 use Rattle.calls.specs.declared.Stop.{Stop}
 use Rattle.calls.specs.declared.Stop.TheVariants.{MoreInput, OutputFull, BadLength}
 use Rattle.calls.specs.Way.{aim_by, aim_of, AimKnown}

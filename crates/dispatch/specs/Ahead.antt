@@ -5,7 +5,7 @@ use Rattle.words.specs.Words.{team_count}
 use Rattle.frames.specs.Numbers.{Bytes, number16, number32}
 use Rattle.frames.specs.Requests.{head_bytes, step_kind, length_of_kind}
 use Rattle.frames.specs.Answers.{longest_answer}
-use Rattle.calls.specs.declared.Aim.{Aim}
+use Rattle.calls.specs.Way.{Aim}
 use Rattle.calls.specs.declared.Stop.TheVariants.{OutputFull}
 use Rattle.calls.specs.Way.{aim_of, AimKnown}
 use Rattle.calls.specs.Stream.{next_at, stopped_or}

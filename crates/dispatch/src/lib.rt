@@ -4,9 +4,9 @@
 ghost use Rattle.std.specs.Prelude.{◌≡◌, ◌+◌, ◌≤◌, ◌<◌, length};
 ghost use Rattle.words.specs.Words.{team_count};
 ghost use Rattle.frames.specs.Fields.{Whole};
-ghost use Rattle.frames.specs.Refusals.{numbered};
+ghost use Rattle.frames.specs.Kinds.{kind_number};
 ghost use Rattle.calls.specs.Stream.{next_at, NextInside};
-ghost use Rattle.calls.specs.Way.{aim_by, aim_of, AimKnown, SlotKnown, slot_of};
+ghost use Rattle.calls.specs.Way.{aim_numbered, aim_by, aim_of, AimKnown, SlotKnown, slot_of};
 ghost use Rattle.dispatch.specs.Ahead.{step_at, ahead_of, AheadInside};
 
 use calls::{Aim, Stop};
@@ -21,11 +21,11 @@ pub enum Ahead {
 }
 
 // A look goes to no team, whatever its fields.
-fn aim_by_kind(frame: &[u8], kind: u16) -> Result<Aim, Refusal>
-    requires { Whole frame.now kind }
-    ensures { (numbered result ≡ aim_by frame.now (Ok kind)) × AimKnown frame.now (numbered result) }
+fn aim_by_kind(frame: &[u8], kind: Kind) -> Result<Aim, Refusal>
+    requires { Whole frame.now (kind_number kind) }
+    ensures { (aim_numbered result ≡ aim_by frame.now (Ok (kind_number kind))) × AimKnown frame.now (aim_numbered result) }
 {
-    if kind == Kind::LOOK {
+    if let Kind::Look = kind {
         return Ok(Aim::Look);
     }
     let part = frames::head::part_after_kind(frame);
@@ -38,7 +38,7 @@ fn aim_by_kind(frame: &[u8], kind: u16) -> Result<Aim, Refusal>
 }
 
 pub fn aim_of(frame: &[u8]) -> Result<Aim, Refusal>
-    ensures { (numbered result ≡ aim_of frame.now) × AimKnown frame.now (numbered result) }
+    ensures { (aim_numbered result ≡ aim_of frame.now) × AimKnown frame.now (aim_numbered result) }
 {
     let kind = frames::head::read_header(frame)?;
     aim_by_kind(frame, kind)
@@ -46,8 +46,8 @@ pub fn aim_of(frame: &[u8]) -> Result<Aim, Refusal>
 
 // The slot that a frame uses: its team's, else the first, which it leaves as it is.
 pub fn slot_of(aim: Result<Aim, Refusal>) -> usize
-    requires { SlotKnown (numbered aim) }
-    ensures { (result ≡ slot_of (numbered aim)) × (result < team_count) }
+    requires { SlotKnown (aim_numbered aim) }
+    ensures { (result ≡ slot_of (aim_numbered aim)) × (result < team_count) }
 {
     let Ok(aim) = aim else {
         return 0;

@@ -3,6 +3,7 @@ use Rattle.std.specs.Prelude.{Result, Ok, Err}
 use Prim.Native.Nat.{ℕ}
 use mathlib.Core.Path.{◌≡◌, refl, sym, ap, ◌∙◌}
 use mathlib.Core.Bool.{Bool, true, false, cond}
+use native.Mathlib.Omega.{arith}
 use borrow.Author.Tests.{ne_eqb}
 use Rattle.words.specs.Tests.{some_holds}
 use Rattle.frames.specs.Requests.{add_kind, correct_kind, strike_kind, move_kind, step_kind, look_kind, view_kind, add_minutes_kind, correct_minutes_kind, is_kind}
@@ -51,3 +52,15 @@ unread number other =
     (ne_eqb number add_kind (other Add), ne_eqb number correct_kind (other Correct), ne_eqb number strike_kind (other Strike), ne_eqb number move_kind (other Move),
     ne_eqb number add_minutes_kind (other AddInMinutes), ne_eqb number correct_minutes_kind (other CorrectInMinutes), ne_eqb number step_kind (other Step), ne_eqb number look_kind (other Look), ne_eqb number view_kind (other View))
     refl
+
+-- A look's kind is told by its number.
+pub look_only : (kind : Kind) → kind_number kind ≡ look_kind → kind ≡ Look
+look_only Add e = absurd (omega arith)
+look_only Correct e = absurd (omega arith)
+look_only Strike e = absurd (omega arith)
+look_only Move e = absurd (omega arith)
+look_only Step e = absurd (omega arith)
+look_only Look e = refl
+look_only View e = absurd (omega arith)
+look_only AddInMinutes e = absurd (omega arith)
+look_only CorrectInMinutes e = absurd (omega arith)

@@ -31,7 +31,7 @@ use Rattle.frames.specs.Fields.{read_if, read_edit, view_read, ViewFields, Whole
 use Rattle.frames.proofs.Headers.{edit_kind_lem, other_kind, fields_of_kind, fields_of_view}
 use Rattle.decoder.proofs.Decoded.{only_allowed}
 use Rattle.calls.proofs.Refusing.{named_many}
-use Rattle.calls.specs.declared.Aim.{Aim}
+use Rattle.calls.specs.Way.{Aim}
 use Rattle.calls.specs.Way.{Settled, AimKnown, slot_of, settled_with, look_answer, open_settled, view_settled, step_settled, new_settled, EditFields, team_settled, look_settled, settled_by}
 use Rattle.replies.specs.Leaving.{LeftBy}
 use Rattle.handlers.specs.declared.Opened.{Opened}

@@ -10,7 +10,7 @@ use Rattle.frames.specs.declared.Answer.TheVariants as Answer
 use Rattle.frames.specs.Numbers.{Bytes}
 use Rattle.frames.specs.Requests.{step_kind}
 use Rattle.frames.specs.Answers.{answer_frame, PutAt}
-use Rattle.calls.specs.declared.Aim.{Aim}
+use Rattle.calls.specs.Way.{Aim}
 use Rattle.calls.specs.Way.{Settled, settled_with, step_settled, new_settled}
 use Rattle.claiming.specs.Missing.{MissLeft}
 use Rattle.quick.specs.declared.Tried.{Tried}

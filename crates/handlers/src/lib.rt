@@ -12,17 +12,17 @@ ghost use Rattle.frames.specs.Requests.{part_after_kind, view_words_in, step_kin
 ghost use Rattle.frames.specs.Numbers.{number16};
 ghost use Rattle.frames.specs.Fields.{Whole, ViewFields, read_edit, view_read};
 ghost use Rattle.frames.specs.Requests.{look_kind};
-ghost use Rattle.frames.specs.Refusals.{refusal_number, numbered};
+ghost use Rattle.frames.specs.Refusals.{refusal_number};
+ghost use Rattle.frames.specs.Kinds.{kind_number};
 ghost use Rattle.frames.specs.Answers.{longest_answer, answer_frame, written, PutAt};
 ghost use Rattle.frames.specs.declared.Answer.TheVariants as Answer;
-ghost use Rattle.calls.specs.declared.Aim.TheVariants as Aim;
-ghost use Rattle.calls.specs.Way.{AimKnown, slot_of, look_answer, open_settled, view_settled, EditFields, settled_by};
+ghost use Rattle.calls.specs.Way.{aimed, aim_numbered, AimKnown, slot_of, look_answer, open_settled, view_settled, EditFields, settled_by};
 ghost use Rattle.replies.specs.Leaving.{RoomAt};
 ghost use Rattle.claiming.specs.Missing.{MissesIn};
 ghost use Rattle.handlers.specs.Settling.{open_by, NoStep, OpenedAs, StepLeft};
 
 use calls::Aim;
-use frames::Refusal;
+use frames::{Kind, Refusal};
 use quick::Tried;
 use replies::Left;
 use tickets::{Ticket, Tickets};
@@ -94,13 +94,13 @@ fn open_edit(
     targets: &mut [u64; Tickets::NUMBERS],
     ranks: &[u16],
     slot: usize,
-    kind: u16,
+    kind: Kind,
     part: &[u8],
     out: &mut [u8],
     at: usize,
 ) -> Opened
-    requires { (slot < team_count) × EditFields part.now kind × Accepted ranks.now × RoomAt out.old at }
-    ensures { (ticket : Slot.Ticket) → OpenedAs (open_settled (gathered targets.old slot ticket) ranks.now (read_edit kind part.now)) targets.old targets.new slot ticket result out.old at out.new }
+    requires { (slot < team_count) × EditFields part.now (kind_number kind) × Accepted ranks.now × RoomAt out.old at }
+    ensures { (ticket : Slot.Ticket) → OpenedAs (open_settled (gathered targets.old slot ticket) ranks.now (read_edit (kind_number kind) part.now)) targets.old targets.new slot ticket result out.old at out.new }
 {
     match decoder::read_edit(kind, part) {
         Ok(edit) => {
@@ -169,13 +169,13 @@ fn open(
     ranks: &[u16],
     ticket: Ticket,
     frame: &[u8],
-    kind: u16,
+    kind: Kind,
     team: u16,
     out: &mut [u8],
     at: usize,
 ) -> Opened
-    requires { AimKnown frame.now (Ok (Aim.Team kind team)) × NoStep (Ok (Aim.Team kind team)) × Accepted ranks.now × RoomAt out.old at }
-    ensures { OpenedAs (open_by (gathered targets.old team ticket) ranks.now (part_after_kind frame.now) kind) targets.old targets.new team ticket result out.old at out.new }
+    requires { AimKnown frame.now (Ok (aimed (Aim.Team kind team))) × NoStep (Ok (aimed (Aim.Team kind team))) × Accepted ranks.now × RoomAt out.old at }
+    ensures { OpenedAs (open_by (gathered targets.old team ticket) ranks.now (part_after_kind frame.now) (kind_number kind)) targets.old targets.new team ticket result out.old at out.new }
 {
     let slot = team as usize;
     if ticket.stands() {
@@ -187,7 +187,7 @@ fn open(
         return unopened(filled);
     }
     let part = frames::head::part_after_kind(frame);
-    if frames::head::is_edit_kind(kind) {
+    if kind.is_edit() {
         return open_edit(targets, ranks, slot, kind, part, out, at);
     }
     open_view(targets, ranks, slot, part, out, at)
@@ -204,8 +204,8 @@ pub fn other_frame(
     out: &mut [u8],
     at: usize,
 ) -> Opened
-    requires { (length book.now ≡ words_in_book) × AimKnown frame.now (numbered aim) × NoStep (numbered aim) × Accepted ranks.now × RoomAt out.old at }
-    ensures { OpenedAs (settled_by book.now (gathered targets.old (slot_of (numbered aim)) ticket) ranks.now frame.now (numbered aim)).0 targets.old targets.new (slot_of (numbered aim)) ticket result out.old at out.new }
+    requires { (length book.now ≡ words_in_book) × AimKnown frame.now (aim_numbered aim) × NoStep (aim_numbered aim) × Accepted ranks.now × RoomAt out.old at }
+    ensures { OpenedAs (settled_by book.now (gathered targets.old (slot_of (aim_numbered aim)) ticket) ranks.now frame.now (aim_numbered aim)).0 targets.old targets.new (slot_of (aim_numbered aim)) ticket result out.old at out.new }
 {
     let aim = match aim {
         Ok(aim) => aim,

@@ -22,10 +22,9 @@ use Rattle.book.proofs.Stepping.{ends_ahead, other_than_step, quick_at, says, we
 use borrow.Author.Rules.{rules}
 use Rattle.book.proofs.answer_frames.Goals as goal
 use Rattle.book.proofs.answer_frames.Goals.{In-Step, In-Other, After-slice_known-in-Step-1}
-use Rattle.calls.specs.declared.Aim.{Aim}
-use Rattle.calls.specs.Way.{aim_of, AimKnown}
+use Rattle.calls.specs.Way.{Aim}
+use Rattle.calls.specs.Way.{aim_numbered, aim_of, AimKnown}
 use Rattle.frames.specs.Numbers.{Bytes}
-use Rattle.frames.specs.Refusals.{numbered}
 
 -- Where a team's step is answered: the team, the frame found, the turn, and what the stream keeps beside its table.
 abbrev team_at : In-Step → ℕ
@@ -231,12 +230,12 @@ pub overflow_add-at-in-Other : goal.overflow_add-at-in-Other
 overflow_add-at-in-Other c = omega (arith, (other_inside (goal.at.overflow_add-at-in-Other c).In-Other).inside)
 
 pub slot_of-slot-requires : goal.slot_of-slot-requires
-slot_of-slot-requires c = slot_known (frame_at c.args.input.now c.loop-next.at (size_at (goal.at.slot_of-slot-requires c).In-Other)) (numbered c.aim_of-aim.result) c.aim_of-aim.ensures.1
+slot_of-slot-requires c = slot_known (frame_at c.args.input.now c.loop-next.at (size_at (goal.at.slot_of-slot-requires c).In-Other)) (aim_numbered c.aim_of-aim.result) c.aim_of-aim.ensures.1
 
 pub other_frame-left-requires : goal.other_frame-left-requires
 other_frame-left-requires c =
-    let turn = other_turn (goal.at.other_frame-left-requires c).In-Other (numbered c.aim_of-aim.result) c.aim_of-aim.ensures in
-    (turn.goes.book, turn.aim_known, no_step (goal.at.other_frame-left-requires c).In-Other (numbered c.aim_of-aim.result) c.aim_of-aim.ensures, turn.goes.accepted, record { inside = turn.goes.fits; room = turn.ahead.answerable })
+    let turn = other_turn (goal.at.other_frame-left-requires c).In-Other (aim_numbered c.aim_of-aim.result) c.aim_of-aim.ensures in
+    (turn.goes.book, turn.aim_known, no_step (goal.at.other_frame-left-requires c).In-Other (aim_numbered c.aim_of-aim.result) c.aim_of-aim.ensures, turn.goes.accepted, record { inside = turn.goes.fits; room = turn.ahead.answerable })
 
 pub loop-next-smaller-then-left : goal.loop-next-smaller-then-left
 loop-next-smaller-then-left c = let ahead = other_inside (goal.at.loop-next-smaller-then-left c).In-Other in omega (arith, ahead.inside, ahead.least)
@@ -246,7 +245,7 @@ loop-next-preserved-then-left c =
     let slot = c.slot_of-slot in
     let frame = c.other_frame-left in
     let loop = c.loop-next in
-    opened_on (other_turn (goal.at.loop-next-preserved-then-left c).In-Other (numbered c.aim_of-aim.result) c.aim_of-aim.ensures) (no_step (goal.at.loop-next-preserved-then-left c).In-Other (numbered c.aim_of-aim.result) c.aim_of-aim.ensures) loop.quick loop.invariant.1 slot.result slot.ensures.0 frame.result _ _ frame.ensures
+    opened_on (other_turn (goal.at.loop-next-preserved-then-left c).In-Other (aim_numbered c.aim_of-aim.result) c.aim_of-aim.ensures) (no_step (goal.at.loop-next-preserved-then-left c).In-Other (aim_numbered c.aim_of-aim.result) c.aim_of-aim.ensures) loop.quick loop.invariant.1 slot.result slot.ensures.0 frame.result _ _ frame.ensures
     c.if-left.true slot.ensures.1 _ c.quick_of-then-left.ensures
 
 pub loop-next-smaller : goal.loop-next-smaller
@@ -257,4 +256,4 @@ loop-next-preserved c =
     let slot = c.slot_of-slot in
     let frame = c.other_frame-left in
     let loop = c.loop-next in
-    (unopened_on (other_turn (goal.at.loop-next-preserved c).In-Other (numbered c.aim_of-aim.result) c.aim_of-aim.ensures) (no_step (goal.at.loop-next-preserved c).In-Other (numbered c.aim_of-aim.result) c.aim_of-aim.ensures) loop.quick loop.invariant.1 slot.result slot.ensures.0 frame.result _ _ frame.ensures c.if-left.false, loop.invariant.1)
+    (unopened_on (other_turn (goal.at.loop-next-preserved c).In-Other (aim_numbered c.aim_of-aim.result) c.aim_of-aim.ensures) (no_step (goal.at.loop-next-preserved c).In-Other (aim_numbered c.aim_of-aim.result) c.aim_of-aim.ensures) loop.quick loop.invariant.1 slot.result slot.ensures.0 frame.result _ _ frame.ensures c.if-left.false, loop.invariant.1)

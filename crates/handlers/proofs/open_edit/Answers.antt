@@ -1,6 +1,7 @@
 -- `handlers::open_edit` meets its contract: the ticket that the edit opens, or the refusal of its fields.
 use mathlib.Core.Path.{refl, sym, ap, ◌∙◌}
 use Rattle.tickets.specs.Table.{gathered}
+use Rattle.frames.specs.Kinds.{kind_number}
 use Rattle.frames.specs.Refusals.{numbered}
 use Rattle.calls.specs.Way.{open_settled}
 use Rattle.handlers.proofs.Cases.{read_allowed, left_opened, left_unopened, edit_opened, edit_refused}
@@ -8,7 +9,7 @@ use Rattle.handlers.proofs.open_edit.Goals as goal
 
 pub open-n-requires : goal.open-n-requires
 open-n-requires c =
-    (c.requires.0, read_allowed c.args.kind c.args.part.now _ (sym c.read_edit.ensures ∙ ap numbered c.in-Ok.is), c.requires.2)
+    (c.requires.0, read_allowed (kind_number c.args.kind) c.args.part.now _ (sym c.read_edit.ensures ∙ ap numbered c.in-Ok.is), c.requires.2)
 
 pub returns-in-Ok : goal.returns-in-Ok
 returns-in-Ok c =
