@@ -5,7 +5,7 @@ use mathlib.Core.Bool.{true}
 use Prim.Native.Nat.{◌/◌, ◌%◌}
 use mir.Syntax.{w16}
 use mir.Val.{to_z, of_z}
-use Rattle.legs.specs.declared.Reading.TheVariants.{Is}
+use Rattle.std.specs.Prelude.{Some}
 use Rattle.legs.specs.Legs.{compass_unit, clino_unit}
 use Rattle.legs.specs.Reading.{passage_in, stations_in, clino_at, is_place, is_measure}
 use Rattle.legs.proofs.Clino.{kept16, clino_in_range_lem}
@@ -40,7 +40,7 @@ returns c =
     let measure_is : is_measure args.measure ≡ true = sym c.is_measure.ensures ∙ c.if-not-is_measure.false in
     let clino : to_z w16 (of_z w16 c.clino_at.result) ≡ clino_at (args.measure / clino_unit) =
     ap (λ z. to_z w16 (of_z w16 z)) c.clino_at.ensures ∙ kept16 _ (clino_in_range_lem _ (in_measure _ measure_is).offset_fits) in
-    (λ i. Is (record {
+    (λ i. Some (record {
       passage = passage_in args.place;
       stations = stations_in args.place;
       measure = record { distance = args.measure % compass_unit; compass = args.measure % clino_unit / compass_unit; clino = clino i };
