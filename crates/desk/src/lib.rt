@@ -3,7 +3,8 @@
 
 ghost use Rattle.std.specs.Prelude.{◌+◌, ◌≤◌, ◌<◌, length};
 
-use frames::numbers::{Bits, read16, read32};
+pub use frames::numbers::read64;
+use frames::numbers::{read16, read32};
 use std::io::{Read, Stdin};
 use tickets::{Kind, Ticket};
 use words::Limits;
@@ -95,15 +96,6 @@ pub struct Given {}
 
 impl Given {
     pub const BYTES: usize = 10;
-}
-
-// The number of 64 bits that starts at a byte.
-pub fn read64(part: &[u8], at: usize) -> u64
-    requires { at + 7 < length part.now }
-{
-    let low = read32(part, at);
-    let high = read32(part, at + 4);
-    low as u64 + Bits::FOUR_BYTES * (high as u64)
 }
 
 pub fn fill_words(words: &mut [u64], value: u64) {

@@ -1,5 +1,5 @@
 -- Bytes put one after the other at the front of an output are the frame, and what stood behind it stays.
-use Prim.Native.Nat.{ℕ, suc, ◌+◌, ◌*◌, ◌/◌, ◌%◌, ◌<◌, ◌≤◌, min}
+use Prim.Native.Nat.{ℕ, suc, ◌+◌, ◌*◌, ◌<◌, ◌≤◌, min}
 use mathlib.Core.Path.{◌≡◌, refl, sym, ap, ◌∙◌}
 use mathlib.Core.List.{List, [], ◌∷◌, ◌++◌}
 use native.Mathlib.Omega.{arith}
@@ -7,24 +7,9 @@ use native.Mathlib.Numerals.{add-one}
 use native.Mathlib.Decide.{dec_lt}
 use lib.ListN.{length, get_or, take, drop, set}
 use lib.Seq.{sets, sets-eq, take-suc, take_all, length-take-le}
-use Rattle.frames.specs.Numbers.{Bytes, bytes16, bytes32, bytes64, fields64}
+use Rattle.frames.specs.Numbers.{Bytes, bytes16, bytes64, fields64}
 use Rattle.frames.specs.Answers.{frame_of, written}
-use Rattle.frames.proofs.Bytes.{half16, half32, length_fields64}
-
--- The two halves of a number, put one after the other.
-pub halves32 : (out half last : Bytes) (at x : ℕ) → half ≡ sets out at (bytes16 (x % 65536)) → last ≡ sets half (at + 2) (bytes16 (x / 65536)) → last ≡ sets out at (bytes32 x)
-halves32 out half last at x first second =
-    let there : at + 2 ≡ suc (suc at) = omega arith in
-    second
-    ∙ ap (λ (k : ℕ). sets half k (bytes16 (x / 65536))) there
-    ∙ ap (λ (bytes : Bytes). sets bytes (suc (suc at)) (bytes16 (x / 65536))) (first ∙ ap (λ (bytes : Bytes). sets out at bytes) (half16 x))
-
-pub halves64 : (out half last : Bytes) (at x : ℕ) → half ≡ sets out at (bytes32 (x % 4294967296)) → last ≡ sets half (at + 4) (bytes32 (x / 4294967296)) → last ≡ sets out at (bytes64 x)
-halves64 out half last at x first second =
-    let there : at + 4 ≡ suc (suc (suc (suc at))) = omega arith in
-    second
-    ∙ ap (λ (k : ℕ). sets half k (bytes32 (x / 4294967296))) there
-    ∙ ap (λ (bytes : Bytes). sets bytes (suc (suc (suc (suc at)))) (bytes32 (x / 4294967296))) (first ∙ ap (λ (bytes : Bytes). sets out at bytes) (half32 x))
+use Rattle.frames.proofs.Bytes.{length_fields64}
 
 -- Bytes put from the front on, with the count of them, are written.
 pub all_written_lem : (out last bytes : Bytes) (count : ℕ) → count ≡ length bytes → last ≡ sets out 0 bytes → length bytes ≤ length out → (count, last) ≡ written out bytes

@@ -19,7 +19,7 @@ ghost use Rattle.tickets.specs.Table.{target_room};
 
 use desk::{Place, Room, at_most, read64, say};
 use frames::numbers::{Bits, read16};
-use legs::{Leg, Reading};
+use legs::Leg;
 use std::io::{Stdin, Stdout};
 use tickets::{Phase, Ticket, Tickets};
 use words::Limits;
@@ -243,10 +243,9 @@ fn read(stdout: Stdout, carried: &[u8]) {
     if carried.len() < Carried::READING {
         return;
     }
-    let reading = legs::read_leg(read64(carried, 0), read64(carried, Carried::NUMBER));
-    match reading {
-        Reading::NoLeg => say::text(stdout, b"no leg\n"),
-        Reading::Is(leg) => tell_leg(stdout, leg),
+    match legs::read_leg(read64(carried, 0), read64(carried, Carried::NUMBER)) {
+        Some(leg) => tell_leg(stdout, leg),
+        None => say::text(stdout, b"no leg\n"),
     }
 }
 
