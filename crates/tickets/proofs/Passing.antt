@@ -30,9 +30,6 @@ module _ (part : Target → ℕ) (ticket : Ticket) (number n k : ℕ) where
       ap (λ (l : List Target). occurs number (map part l)) (next_target ticket n k inside)
       ∙ ap (λ b. cond b true (occurs number (map part (targets_from (k + 1) (n - (k + 1)) ticket)))) (ne_eqb _ _ (λ same. other (sym same)))
 
-  pub none_occurs : n ≤ k → occurs number (map part (targets_from k (n - k) ticket)) ≡ false
-  none_occurs none = ap (λ (l : List Target). occurs number (map part l)) (no_target_left ticket n k none)
-
 module _ (ticket : Ticket) (word n k : ℕ) where
   -- The value noted for a word.
   pub noted_here : k < n → (target_at ticket k).word ≡ word → value_noted (targets_from k (n - k) ticket) word ≡ (target_at ticket k).quoted
