@@ -9,6 +9,7 @@ use lib.ListN.{length, get_or, take}
 use Rattle.std.specs.List.{list_any}
 use Rattle.std.proofs.lemmas.List.{take_all}
 use Rattle.std.proofs.lemmas.List.Folds.{list_any_more}
+use Rattle.words.proofs.Tests.{second_or}
 use Rattle.words.specs.Words.{team_count, most_targets, most_named}
 use Rattle.tickets.specs.declared.Target.{Target}
 use Rattle.tickets.specs.declared.Phase.TheVariants.{NoTicket}
@@ -76,17 +77,11 @@ any_below slots targets zero inside = refl
 any_below slots targets (suc n) inside =
     ap (λ (k : ℕ). list_any stands_in (take k slots)) next
     ∙ list_any_more stands_in slots n no_slot (omega (arith, inside))
-    ∙ exchanged (list_any stands_in (take n slots)) (stands_in (get_or slots n no_slot))
+    ∙ second_or (list_any stands_in (take n slots)) (stands_in (get_or slots n no_slot))
     ∙ (λ i. cond (same i) true (any_below slots targets n (omega (arith, inside)) i))
   where
     next : suc n ≡ n + 1
     next = omega arith
-
-    exchanged : (a b : Bool) → (a || b) ≡ cond b true a
-    exchanged true true = refl
-    exchanged true false = refl
-    exchanged false true = refl
-    exchanged false false = refl
 
     same : stands_in (get_or slots n no_slot) ≡ has_ticket (ticket_of (table_of (table_with slots targets)) n).phase
     same = sym (ap (λ t. has_ticket t.phase) (slot_gathered (table_with slots targets) n) ∙ gathered_has targets n (get_or slots n no_slot))
