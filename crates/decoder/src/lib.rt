@@ -217,27 +217,17 @@ fn named_words(part: &[u8], n: usize) -> [u64; Limits::NAMED]
     ensures { result ≡ padded_names (view_words_in part.now) }
 {
     let mut words = [0u64; Limits::NAMED];
-    let mut k: usize = 0;
-    while k < n {
+    for k in 0..n {
         words[k] = read16(part, 2 * Frame::FIELD + Frame::FIELD * k) as u64;
-        k += 1;
     }
     words
 }
 
-// Whether the first n are words of the book.
-fn all_in_book(words: [u64; Limits::NAMED], n: usize) -> bool
-    requires { n ≤ most_named }
-    ensures { result ≡ all_in_book (take n words) }
+// Whether all are words of the book.
+fn all_in_book(words: &[u64]) -> bool
+    ensures { result ≡ all_in_book words.now }
 {
-    let mut k: usize = 0;
-    while k < n {
-        if Limits::WORDS as u64 <= words[k] {
-            return false;
-        }
-        k += 1;
-    }
-    true
+    words.iter().all(|word| *word < Limits::WORDS as u64)
 }
 
 // team n, then n words.
@@ -251,10 +241,10 @@ pub fn read_view(part: &[u8]) -> Result<View, Refusal>
         return Err(Refusal::Range);
     }
     let words = named_words(part, count);
-    if !all_in_book(words, count) {
+    if !all_in_book(&words[..count]) {
         return Err(Refusal::Range);
     }
-    if !words::distinct(words, count) {
+    if !words::distinct(&words[..count]) {
         return Err(Refusal::Repeated);
     }
     Ok(View { n: n, words: words })
