@@ -5,25 +5,25 @@ ghost use Rattle.std.specs.Prelude.{◌≡◌, ◌≤◌, length};
 ghost use Rattle.words.specs.declared.LegLayout.TheVariants.{FourWords};
 ghost use Rattle.soundness.specs.InWords.{plain_in};
 ghost use Rattle.meeting.specs.Meeting.{station_list, at_front, meeting_of};
-ghost use Rattle.stations.specs.Counting.{SoundBook, counts_at, size_of, list_length};
+ghost use Rattle.stations.specs.Counting.{counts_at, size_of, list_length};
 
 use frames::Refusal;
 use listing::{write_legs, write_pairs};
 use meeting::Met;
 use sound::is_plain;
-use stations::{Size, counts_at, size_of};
+use stations::{Size, SoundBook, counts_at, size_of};
 use words::Limits;
 
 // Writes the whole list, for which the output has room, and returns its length.
 fn write_list(
-    book: &[u64],
+    book: SoundBook,
     station: u16,
     counts: [usize; Limits::PASSAGES as usize],
     size: Size,
     out: &mut [u64],
 ) -> usize
-    requires { ((SoundBook book.now × (counts ≡ counts_at station (plain_in FourWords book.now))) × (size ≡ size_of counts)) × (list_length size ≤ length out.old) }
-    ensures { (result ≡ length (station_list book.now station)) × (out.new ≡ at_front out.old (station_list book.now station)) }
+    requires { (counts ≡ counts_at station (plain_in FourWords book.words.now)) × (size ≡ size_of counts) × (list_length size ≤ length out.old) }
+    ensures { (result ≡ length (station_list book.entry.words.now station)) × (out.new ≡ at_front out.old (station_list book.entry.words.now station)) }
 {
     let legs = size.legs;
     out[0] = legs as u64;
@@ -39,19 +39,20 @@ fn write_list(
 pub fn meet(book: &[u64], station: u16, out: &mut [u64]) -> Met
     ensures { (result, out.new) ≡ meeting_of book.now station out.old }
 {
-    if book.len() != Limits::WORDS {
+    let Some(whole) = book.as_array::<{ Limits::WORDS }>() else {
         let number = Refusal::BOOK as u16;
         return Met::Refused(number);
-    }
-    if !is_plain(book) {
+    };
+    if !is_plain(whole) {
         return Met::Refused(Refusal::UNSOUND);
     }
-    let counts = counts_at(book, station);
+    let sound = SoundBook { words: whole };
+    let counts = counts_at(sound, station);
     let size = size_of(counts);
     let words = Size::NUMBERS + Size::ENTRY * (size.legs + size.pairs);
     if out.len() < words {
         return Met::Refused(Refusal::LIST);
     }
-    let end = write_list(book, station, counts, size, out);
+    let end = write_list(sound, station, counts, size, out);
     Met::Written(end)
 }
