@@ -8,7 +8,7 @@ ghost use Rattle.meeting.specs.Meeting.{station_list, at_front, meeting_of};
 ghost use Rattle.stations.specs.Counting.{counts_at, size_of, list_length};
 
 use frames::Refusal;
-use listing::{write_legs, write_pairs};
+use listing::{Output, write_legs, write_pairs};
 use meeting::Met;
 use sound::is_plain;
 use stations::{Size, SoundBook, counts_at, size_of};
@@ -25,12 +25,14 @@ fn write_list(
     requires { (counts ≡ counts_at station (plain_in FourWords book.words.now)) × (size ≡ size_of counts) × (list_length size ≤ length out.old) }
     ensures { (result ≡ length (station_list book.entry.words.now station)) × (out.new ≡ at_front out.old (station_list book.entry.words.now station)) }
 {
+    let mut list = Output { words: out, at: 0 };
     let legs = size.legs;
-    out[0] = legs as u64;
-    let at = write_legs(book, station, out, 1);
+    list.put(legs as u64);
+    write_legs(book, station, &mut list);
     let pairs = size.pairs;
-    out[at] = pairs as u64;
-    write_pairs(counts, out, at + 1)
+    list.put(pairs as u64);
+    write_pairs(counts, &mut list);
+    list.at
 }
 
 // Lists the legs at a station and the pairs of passages that meet there, unless it is refused. How long the list is, is

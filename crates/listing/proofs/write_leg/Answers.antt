@@ -16,7 +16,7 @@ told c = (λ i. two_if (c.is_at-there.ensures i) (c.from.ensures i) (c.distance_
 
 pub put_two_if-requires : goal.put_two_if-requires
 put_two_if-requires c =
-    subst (λ (words : Words). c.args.at + length words ≤ length c.args.out.now) (sym (told (goal.at.put_two_if-requires c).After-from)) c.requires
+    subst (λ (words : Words). c.args.out.now.at + length words ≤ length c.args.out.now.words.now) (sym (told (goal.at.put_two_if-requires c).After-from)) c.requires
 
 pub returns : goal.returns
-returns c = c.put_two_if.ensures ∙ ap (wrote c.args.out.now c.args.at) (told (goal.at.returns c).After-from)
+returns c = (c.put_two_if.ensures.0 ∙ ap (wrote c.args.out.now.words.now c.args.out.now.at) (told (goal.at.returns c).After-from), c.put_two_if.ensures.1)

@@ -1,3 +1,4 @@
+use mathlib.Core.Path.{◌≡◌}
 use Rattle.words.specs.declared.LegLayout.TheVariants.{FourWords}
 use Rattle.soundness.specs.InWords.{list_in}
 use Rattle.meeting.specs.Meeting.{those_meeting, listed_words}
@@ -7,4 +8,5 @@ use Rattle.listing.proofs.write_passage.Given as goal
 
 abbrev pub invariant-loop-leg : goal.invariant-loop-leg
 invariant-loop-leg l =
-    Continues l.out l.next (listed_words (those_meeting l.station (legs_left l.leg-iterator))) l.initial.out l.at (listed_words (those_meeting l.station (list_in FourWords l.book.words.now l.passage)))
+    Continues l.out.words.now l.out.at (listed_words (those_meeting l.station (legs_left l.leg-iterator))) l.initial.out.words.now l.initial.out.at (listed_words (those_meeting l.station (list_in FourWords l.book.words.now l.passage)))
+    × (l.out.words.ghost_name ≡ l.initial.out.words.ghost_name)
