@@ -1,14 +1,8 @@
 -- The legs at a station, counted by passage, and how long their list is by these counts.
-use Rattle.std.specs.Prelude.{ℕ, ◌+◌, ◌*◌, ◌≡◌, List, [], ◌∷◌, true, cond, eqb, length}
-use Rattle.words.specs.Words.{Words, words_in_book}
+use Rattle.std.specs.Prelude.{ℕ, ◌+◌, ◌*◌, List, [], ◌∷◌, cond, eqb, length}
 use Rattle.plain.specs.Plain.{Plain}
-use Rattle.soundness.specs.Checking.{is_sound}
 use Rattle.meeting.specs.Meeting.{those_meeting}
 use Rattle.stations.specs.declared.Size.{Size}
-
--- A book of whole length that passed the check.
-abbrev pub SoundBook : Words → Type 0
-SoundBook words = (length words ≡ words_in_book) × (is_sound words ≡ true)
 
 -- How many legs of each passage are at the station.
 unfoldable pub counts_at : ℕ → Plain → List ℕ

@@ -23,7 +23,7 @@ pub is_marked-requires : goal.is_marked-requires
 is_marked-requires c =
     let least : 1 ≤ c.args.leg = omega (arith, c.if-leg-lt1.false) in
     let most : c.args.leg ≤ last_leg_in c.args.layout = omega (arith, c.if-last_leg_in-leg.false, c.last_leg_in.ensures) in
-    (least, subst (λ (long : ℕ). byte_of c.args.leg < long) (sym c.requires.1) (byte_inside c.args.layout c.args.leg least most))
+    (least, subst (λ (long : ℕ). byte_of c.args.leg < long) (sym c.requires) (byte_inside c.args.layout c.args.leg least most))
 
 pub returns-then-is_marked : goal.returns-then-is_marked
 returns-then-is_marked c =
@@ -40,13 +40,13 @@ pub bounds-book-at : goal.bounds-book-at
 bounds-book-at c =
     let least : 1 ≤ c.args.leg = omega (arith, c.if-leg-lt1.false) in
     let most : c.args.leg ≤ last_leg_in c.args.layout = omega (arith, c.if-last_leg_in-leg.false, c.last_leg_in.ensures) in
-    omega (arith, three_inside c.args.layout c.args.leg c.link_word_in-at.result c.link_word_in-at.ensures least most, c.requires.0)
+    omega (arith, three_inside c.args.layout c.args.leg c.link_word_in-at.result c.link_word_in-at.ensures least most)
 
 pub bounds-book-at-2 : goal.bounds-book-at-2
 bounds-book-at-2 c =
     let least : 1 ≤ c.args.leg = omega (arith, c.if-leg-lt1.false) in
     let most : c.args.leg ≤ last_leg_in c.args.layout = omega (arith, c.if-last_leg_in-leg.false, c.last_leg_in.ensures) in
-    omega (arith, three_inside c.args.layout c.args.leg c.link_word_in-at.result c.link_word_in-at.ensures least most, c.requires.0)
+    omega (arith, three_inside c.args.layout c.args.leg c.link_word_in-at.result c.link_word_in-at.ensures least most)
 
 pub returns-then-not-is_of_passage : goal.returns-then-not-is_of_passage
 returns-then-not-is_of_passage c =
