@@ -8,6 +8,6 @@ pub returns-in-Edit : goal.returns-in-Edit
 returns-in-Edit c =
     let plain = c.is_plain in
     let ticket = c.args.ticket in
-    c.chosen_count.ensures
+    c.chosen.ensures
     ∙ ap (λ b. cond b ticket.n 0) plain.ensures
     ∙ ap (λ k. quick_if k (is_plain ticket) ticket.n) (sym c.in-Edit.is)
