@@ -134,11 +134,11 @@ impl Told {
 
     const LONG: u16 = (Frame::FIELD + Frame::LONG) as u16;
 
-    const CLAIMED: u32 = Told::SHORT as u32 + Bits::TWO_BYTES * (AnswerKind::CLAIMED as u32);
+    const CLAIMED: u32 = Told::SHORT as u32 + Bits::TWO_BYTES * (AnswerKind::Claimed as u32);
 
-    const PUT: u32 = Told::SHORT as u32 + Bits::TWO_BYTES * (AnswerKind::PUT as u32);
+    const PUT: u32 = Told::SHORT as u32 + Bits::TWO_BYTES * (AnswerKind::Put as u32);
 
-    const GRANTED: u32 = Told::LONG as u32 + Bits::TWO_BYTES * (AnswerKind::GRANTED as u32);
+    const GRANTED: u32 = Told::LONG as u32 + Bits::TWO_BYTES * (AnswerKind::Granted as u32);
 }
 
 // The answer to a swap that went through: six bytes, or eight where it is Granted; the bytes behind them stay.

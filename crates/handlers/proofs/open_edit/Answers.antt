@@ -13,7 +13,7 @@ pub returns-in-Is : goal.returns-in-Is
 returns-in-Is c =
     let read = c.read_edit-read in
     let opened = c.open-n in
-    let put = c.put_standing-filled in
+    let put = c.put-filled in
     let is = sym c.in-Is.is ∙ read.ensures in
     λ ticket.
     left_opened _ c.args.targets.now _ c.args.slot ticket c.edit.result _ _ _ _ _ _ refl
