@@ -13,7 +13,7 @@ use Rattle.legs.specs.Minutes.{Minutes, hundredths_of}
 use Rattle.tickets.specs.declared.StepAnswer.TheVariants.{Waiting, Granted, Stale, Seen}
 use Rattle.tickets.specs.declared.Values.{Values}
 use Rattle.tickets.specs.Steps.{values_from}
-use Rattle.tickets.specs.declared.LookAnswer.TheVariants.{Value, Held}
+use Rattle.std.specs.Prelude.{None, Some}
 use Rattle.edits.specs.declared.Edit.{Edit}
 use Rattle.edits.specs.Ranges.{edit_in_range, edit_repeats}
 use Rattle.edits.specs.Views.{all_in_book, view_in_range, view_repeats}
@@ -187,11 +187,11 @@ unfolding answer_in answer_frame numbers64 fields64
 waiting_heard = refl
 
 -- The measure of the leg above, looked at.
-value : answer_frame (Answer.Look (Value 76022100792200)) ≡ 10 ∷ 0 ∷ 136 ∷ 0 ∷ 136 ∷ 19 ∷ 80 ∷ 70 ∷ 36 ∷ 69 ∷ 0 ∷ 0 ∷ []
+value : answer_frame (Answer.Look (Some 76022100792200)) ≡ 10 ∷ 0 ∷ 136 ∷ 0 ∷ 136 ∷ 19 ∷ 80 ∷ 70 ∷ 36 ∷ 69 ∷ 0 ∷ 0 ∷ []
 unfolding answer_frame
 value = refl
 
-held : answer_frame (Answer.Look Held) ≡ 2 ∷ 0 ∷ 137 ∷ 0 ∷ []
+held : answer_frame (Answer.Look None) ≡ 2 ∷ 0 ∷ 137 ∷ 0 ∷ []
 unfolding answer_frame
 held = refl
 
@@ -212,7 +212,7 @@ unfolding answer_in answer_frame numbers64 fields64
 seen_heard = refl
 
 -- The bytes of an output after the frame stay.
-held_written : written (replicate 12 7) (answer_frame (Answer.Look Held)) ≡ (4, 2 ∷ 0 ∷ 137 ∷ 0 ∷ replicate 8 7)
+held_written : written (replicate 12 7) (answer_frame (Answer.Look None)) ≡ (4, 2 ∷ 0 ∷ 137 ∷ 0 ∷ replicate 8 7)
 unfolding answer_frame
 held_written = refl
 

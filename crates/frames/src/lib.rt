@@ -9,17 +9,18 @@ ghost use Rattle.frames.specs.Kinds.{kind_number, KindRead};
 use crate::numbers::Bits;
 use std::error::Error;
 use std::fmt;
-use tickets::{LookAnswer, StepAnswer};
+use tickets::StepAnswer;
 use words::Limits;
 
 pub mod numbers; // numbers in bytes, read and put
 pub mod head; // refusals 3 to 5, and the part after the kind
 
+// An answer; that to a look has the word's value, and none where the word is held.
 #[derive(Clone, Copy)]
 pub enum Answer {
     Standing(u16),
     Step(StepAnswer),
-    Look(LookAnswer),
+    Look(Option<u64>),
     Refused(u16),
 }
 

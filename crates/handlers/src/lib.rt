@@ -22,7 +22,7 @@ ghost use Rattle.claiming.specs.Missing.{MissesIn};
 ghost use Rattle.handlers.specs.Settling.{open_by, NoStep, OpenedAs, StepLeft};
 
 use calls::Aim;
-use frames::{Kind, Refusal};
+use frames::{Answer, Kind, Refusal};
 use quick::Tried;
 use replies::Left;
 use tickets::{Ticket, Tickets};
@@ -36,47 +36,25 @@ pub struct Opened {
     pub filled: usize,
 }
 
-fn write_looked(out: &mut [u8], book: &[u64], word: u16) -> usize
-    requires { (longest_answer ≤ length out.old) × (length book.now ≡ words_in_book) }
-    ensures { ((result, out.new) ≡ written out.old (answer_frame (look_answer book.now word))) × (result ≤ longest_answer) }
-{
-    if (word as usize) < Limits::WORDS {
-        let look = steps::look(book, word);
-        return encoder::write_look(out, look);
-    }
-    encoder::write_refused(out, Refusal::Range.number())
-}
-
-// Puts an answer at a place of the output, and returns the place after it: that of an edit or a view that opens a ticket,
-fn put_standing(out: &mut [u8], at: usize, n: u16) -> usize
-    requires { RoomAt out.old at }
-    ensures { PutAt out.old at (answer_frame (Answer.Standing n)) result out.new }
-{
-    let room = &mut out[at..];
-    let count = encoder::write_standing(room, n);
-    at + count
-}
-
-// of a look,
+// Puts the answer to a look at a place of the output, and returns the place after it,
 fn put_look(out: &mut [u8], at: usize, book: &[u64], frame: &[u8]) -> usize
     requires { RoomAt out.old at × (length book.now ≡ words_in_book) × Whole frame.now look_kind }
     ensures { PutAt out.old at (answer_frame (look_answer book.now (number16 (part_after_kind frame.now) 0))) result out.new }
 {
     let part = frames::head::part_after_kind(frame);
     let word = frames::numbers::read16(part, 0);
-    let room = &mut out[at..];
-    let count = write_looked(room, book, word);
-    at + count
+    if (word as usize) < Limits::WORDS {
+        return replies::put(out, at, Answer::Look(steps::look(book, word)));
+    }
+    put_refused(out, at, Refusal::Range)
 }
 
-// and of a refusal.
+// and a refusal.
 pub fn put_refused(out: &mut [u8], at: usize, refusal: Refusal) -> usize
     requires { RoomAt out.old at }
     ensures { PutAt out.old at (answer_frame (Answer.Refused (refusal_number refusal))) result out.new }
 {
-    let room = &mut out[at..];
-    let count = encoder::write_refused(room, refusal.number());
-    at + count
+    replies::put(out, at, Answer::Refused(refusal.number()))
 }
 
 // No ticket is opened, and the place behind the answer is known.
@@ -105,7 +83,7 @@ fn open_edit(
     match decoder::read_edit(kind, part) {
         Ok(edit) => {
             let n = opening::open(targets, ranks, slot, edit);
-            let filled = put_standing(out, at, n);
+            let filled = replies::put(out, at, Answer::Standing(n));
             Opened {
                 opens: true,
                 ticket: Ticket::edit(n),
@@ -133,7 +111,7 @@ fn open_view(
     match decoder::read_view(part) {
         Ok(view) => {
             opening::open_view(targets, ranks, slot, view);
-            let filled = put_standing(out, at, view.n);
+            let filled = replies::put(out, at, Answer::Standing(view.n));
             Opened {
                 opens: true,
                 ticket: Ticket::view(view.n),

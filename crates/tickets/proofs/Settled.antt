@@ -10,7 +10,7 @@ use Rattle.tickets.specs.Tickets.{Ticket}
 use Rattle.tickets.specs.declared.SwapTried.{SwapTried}
 use Rattle.tickets.specs.Steps.{Stepped}
 use Rattle.tickets.specs.declared.StepAnswer.TheVariants.{Found, Stale}
-use Rattle.tickets.specs.declared.LookAnswer.TheVariants.{Held, Value}
+use Rattle.std.specs.Prelude.{None, Some}
 use Rattle.tickets.specs.Tickets.{no_ticket, target_at}
 use Rattle.tickets.specs.Steps.{swap_tried_in, swap_tried, one_more_try, advanced, stepped, claimed, waited, differed, view_waited, view_claimed, settled_in, settled, step_of, look_of}
 
@@ -61,8 +61,8 @@ step_by_lem words ticket team tried found after result et ef ew er =
     ∙ (λ i. (settled ticket (swap_of words (et i).word (et i).expected (et i).desired).found, (swap_of words (et i).word (et i).expected (et i).desired).words))
 
 -- A look, by what it read.
-pub look_held : (words : Words) (word : ℕ) → is_held (read_of words word) ≡ true → Held ≡ look_of words word
+pub look_held : (words : Words) (word : ℕ) → is_held (read_of words word) ≡ true → None ≡ look_of words word
 look_held words word h = rw h refl
 
-pub look_value : (words : Words) (word : ℕ) → is_held (read_of words word) ≡ false → Value (read_of words word) ≡ look_of words word
+pub look_value : (words : Words) (word : ℕ) → is_held (read_of words word) ≡ false → Some (read_of words word) ≡ look_of words word
 look_value words word h = rw h refl

@@ -14,7 +14,7 @@ open-n-requires c =
 pub returns-in-Ok : goal.returns-in-Ok
 returns-in-Ok c =
     let opened = c.open-n in
-    let put = c.put_standing-filled in
+    let put = c.put-filled in
     let is = sym (ap numbered c.in-Ok.is) ∙ c.read_edit.ensures in
     λ ticket.
     left_opened _ c.args.targets.now _ c.args.slot ticket c.edit.result _ _ _ _ _ _ refl

@@ -13,7 +13,7 @@ open_view-requires c =
 
 pub returns-in-Ok : goal.returns-in-Ok
 returns-in-Ok c =
-    let put = c.put_standing-filled in
+    let put = c.put-filled in
     λ ticket.
     left_opened _ c.args.targets.now _ c.args.slot ticket c.view.result _ _ _ _ _ _ refl
     (view_opened (gathered c.args.targets.now c.args.slot ticket) _ c.args.ranks.now c.in-Ok.view (ap (gathered _ c.args.slot) c.view.ensures ∙ c.open_view.ensures.opened)
