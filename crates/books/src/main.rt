@@ -11,9 +11,8 @@ use desk::records::{Given, Record, Records};
 use desk::{Room, records};
 use frames::Refusal;
 use sound::Scratch;
-use std::fmt;
-use std::io;
 use std::io::{Print, Stdout};
+use std::{fmt, io};
 
 // The buffer of which a part is lent: the bytes before that part, its bytes at most, and some behind them.
 #[derive(Drop)]

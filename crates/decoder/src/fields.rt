@@ -7,8 +7,8 @@ ghost use Rattle.frames.specs.Numbers.{number16, number32, signed16};
 ghost use Rattle.frames.specs.Requests.{stations_at, measure_at, minutes_at, taken_at};
 ghost use Rattle.frames.specs.Fields.{field_of, clino_field_of, measure_field_of, compass_minutes_field_of, clino_minutes_field_of, minutes_field_of, measure_size, measure_field_at, taken_field_of};
 
-use frames::numbers::{Bits, read16, read32, signed};
 use frames::Taken;
+use frames::numbers::{Bits, read16, read32, signed};
 use legs::{Angle, Measure, Stations};
 use words::Limits;
 

@@ -48,9 +48,17 @@ as_kind number kind is =
 pub unread : (number : ℕ) → ((kind : Kind) → number ≡ kind_number kind → ⊥) → Err 4 ≡ kind_read number
 unfolding some_holds
 unread number other =
-    rw
-    (ne_eqb number add_kind (other Add), ne_eqb number correct_kind (other Correct), ne_eqb number strike_kind (other Strike), ne_eqb number move_kind (other Move),
-    ne_eqb number add_minutes_kind (other AddInMinutes), ne_eqb number correct_minutes_kind (other CorrectInMinutes), ne_eqb number step_kind (other Step), ne_eqb number look_kind (other Look), ne_eqb number view_kind (other View))
+    rw (
+      ne_eqb number add_kind (other Add),
+      ne_eqb number correct_kind (other Correct),
+      ne_eqb number strike_kind (other Strike),
+      ne_eqb number move_kind (other Move),
+      ne_eqb number add_minutes_kind (other AddInMinutes),
+      ne_eqb number correct_minutes_kind (other CorrectInMinutes),
+      ne_eqb number step_kind (other Step),
+      ne_eqb number look_kind (other Look),
+      ne_eqb number view_kind (other View),
+    )
     refl
 
 -- A look's kind is told by its number.

@@ -50,4 +50,3 @@ returns-clause-all c =
 
 pub returns-clause-refusal : goal.returns-clause-refusal
 returns-clause-refusal c = returns_none c.args.book.now c.args.ranks.now c.args.out.now c.if-book-ne-WORDS.false (sym c.is_permutation.ensures ∙ c.if-not-is_permutation.false) c.if-out-lt-LONGEST.false
-

@@ -30,4 +30,3 @@ returns-in-Strike c = c.read_strike.ensures ∙ ap (λ (kind : Kind). read_edit 
 pub returns-in-Move : goal.returns-in-Move
 unfolding read_edit edit_of_kind angles_of_kind
 returns-in-Move c = c.read_move.ensures ∙ ap (λ (kind : Kind). read_edit (kind_number kind) c.args.part.now) (sym c.in-Move.is)
-
