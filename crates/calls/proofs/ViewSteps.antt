@@ -5,7 +5,7 @@ use mathlib.Core.List.{List, [], ◌∷◌, ◌++◌, map}
 use mathlib.Core.Option.{some}
 use Prim.Native.Nat.{ℕ, ◌+◌, ◌≤◌, ◌<◌, min}
 use native.Mathlib.Omega.{arith}
-use lib.ListN.{length, set, take, get_or, length-map}
+use lib.ListN.{length, set, take, length-map}
 use Rattle.tickets.specs.declared.Phase.{Phase}
 use Rattle.tickets.specs.declared.Phase.TheVariants.{Claiming, Putting, GivingBack, Viewing, Viewed}
 use Rattle.tickets.specs.Tickets.{Ticket, no_ticket, ticket_of, target_at, targets_in, words_in, named_in, is_view, claims}

@@ -59,7 +59,7 @@ views_answers : drop 24 (answers (calls views))
     ≡ map some (Answer.Standing 2 ∷ Answer.Step (Waiting 65 1) ∷ Answer.Step (Claimed 2) ∷ Answer.Step (Claimed 3) ∷ Answer.Step (Waiting 65 1)
     ∷ Answer.Step (Returned 1) ∷ Answer.Step (Returned 2) ∷ Answer.Step (Claimed 1) ∷ Answer.Step (Claimed 2) ∷ Answer.Step (Put 1) ∷ Answer.Step (Granted 6)
     ∷ Answer.Look (Some after)
-    ∷ Answer.Step (Seen (record { n = 3; first = before; second = place; third = place_of 1 stations; fourth = 0; fifth = 0; sixth = 0 })) ∷ [])
+    ∷ Answer.Step (Seen (record { n = 3; values = before ∷ place ∷ place_of 1 stations ∷ 0 ∷ 0 ∷ 0 ∷ [] })) ∷ [])
 unfolding every_run
 views_answers = refl
 

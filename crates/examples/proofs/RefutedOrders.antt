@@ -68,7 +68,7 @@ shows_mark right = let shown : ◌≡◌ {A = ℕ} (2 ^ 63) 0 = right.looks_agre
 abbrev seeing : List Heard
 seeing =
     heard_as (View 0 1 (2 ∷ [])) (Answer.Standing 1) ∷ heard_as (Step 0) (Answer.Step (Claimed 1))
-    ∷ heard_as (Step 0) (Answer.Step (Seen (record { n = 1; first = 7; second = 0; third = 0; fourth = 0; fifth = 0; sixth = 0 }))) ∷ []
+    ∷ heard_as (Step 0) (Answer.Step (Seen (record { n = 1; values = 7 ∷ 0 ∷ 0 ∷ 0 ∷ 0 ∷ 0 ∷ [] }))) ∷ []
 
 shows_another_value : Linearizable (running fresh_book fresh_tickets seeing) → ⊥
 unfolding every_run

@@ -1,21 +1,21 @@
 -- What a frame settles, case by case: each test of the code, and what the definitions of the way say there.
 use Rattle.edits.specs.declared.View.{View}
 use Rattle.std.specs.Prelude.{Result, Ok, Err}
-use Prim.Native.Nat.{ℕ, ◌≤◌, ◌<◌}
+use Prim.Native.Nat.{ℕ, ◌≤◌}
 use mathlib.Core.Path.{◌≡◌, refl, sym, ap, subst, ◌∙◌}
 use mathlib.Core.Bool.{Bool, true, false, cond, not, false≢true}
 use mathlib.Core.List.{List, [], ◌∷◌}
 use native.Mathlib.Decide.{ℕ_discrete}
-use borrow.Author.Tests.{eq-eqb, ne_eqb, lt-ltb, le-ltb}
+use borrow.Author.Tests.{eq-eqb, ne_eqb}
 use lib.Dec.{eqb}
 use lib.ListN.{length}
 use Rattle.words.specs.Tests.{distinct}
-use Rattle.words.specs.Words.{Words, words_in_book, most_named}
+use Rattle.words.specs.Words.{Words, most_named}
 use Rattle.words.proofs.Tests.{split}
 use Rattle.legs.specs.Positions.{Ranks}
 use Rattle.tickets.specs.declared.Ticket as Slot
 use Rattle.tickets.specs.Tickets.{Ticket, has_ticket, well_made, SlotWellMade, slot_well_made}
-use Rattle.tickets.specs.Steps.{step_of, look_of}
+use Rattle.tickets.specs.Steps.{step_of}
 use Rattle.tickets.specs.Table.{stands_in, gathered, ElsewhereSame}
 use Rattle.tickets.proofs.Gathering.{gathered_has}
 use Rattle.edits.specs.declared.Edit.{Edit}
@@ -36,16 +36,6 @@ use Rattle.calls.specs.Way.{Settled, AimKnown, slot_of, settled_with, look_answe
 use Rattle.replies.specs.Leaving.{LeftBy}
 use Rattle.handlers.specs.declared.Opened.{Opened}
 use Rattle.handlers.specs.Settling.{step_by, open_by, NoStep, SettledAs, slot_after, OpenedAs}
-
--- A look, or refusal 10.
-pub look_shown : (words : Words) (word : ℕ) → word < words_in_book → Answer.Look (look_of words word) ≡ look_answer words word
-look_shown words word l = ap (λ b. cond b (Answer.Look (look_of words word)) (Answer.Refused 10)) (sym (lt-ltb word words_in_book l))
-
-pub look_outside : (words : Words) (word : ℕ) → words_in_book ≤ word → Answer.Refused 10 ≡ look_answer words word
-look_outside words word l = ap (λ b. cond b (Answer.Look (look_of words word)) (Answer.Refused 10)) (sym (le-ltb word words_in_book l))
-
-pub looked_so : (words : Words) (out : Bytes) (at : ℕ) {first second place : ℕ} {output : Bytes} → first ≡ second → PutAt out at (answer_frame (look_answer words first)) place output → PutAt out at (answer_frame (look_answer words second)) place output
-looked_so words out at {first} {second} {place} {output} is put = subst (λ (word : ℕ). PutAt out at (answer_frame (look_answer words word)) place output) is put
 
 -- A step of a team.
 pub step_by_lem : (words : Words) (ticket : Ticket) (ranks : Ranks) (frame : Bytes) (team : ℕ) → settled_by words ticket ranks frame (Ok (Aim.Team step_kind team)) ≡ step_by words ticket team

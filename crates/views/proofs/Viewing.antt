@@ -6,7 +6,7 @@ use mathlib.Core.List.{List, [], ◌∷◌}
 use native.Mathlib.Omega.{arith}
 use borrow.Author.Tests.{leb-true}
 use lib.Dec.{leb}
-use lib.ListN.{length, get_or}
+use lib.ListN.{length}
 use lib.Seq.{get_or-set_other}
 use Rattle.words.specs.Words.{Words, most_named, is_held, mark_of, holder_of, read_of, swap_of, any_value}
 use Rattle.words.specs.Tests.{within}
