@@ -8,7 +8,7 @@ use Rattle.calls.specs.declared.Outcome.TheVariants.{Done}
 use Rattle.calls.specs.Outcomes.{outcome_of}
 use Rattle.calls.specs.Shelves.{fill_refusal}
 use Rattle.tickets.specs.Table.{table_of}
-use Rattle.shelves.proofs.Checks.{is_refused, fill_checks, fill_refused, fill_done, fill_right, unknown_is}
+use Rattle.shelves.proofs.Checks.{is_refused, fill_checks, fill_refused, fill_done, unknown_is}
 use Rattle.shelves.proofs.fill.Goals as goal
 use Rattle.shelves.proofs.fill.Goals.{After-checked-outcome}
 
@@ -21,15 +21,6 @@ checks_agree c =
 pub returns-in_default : goal.returns-in_default
 returns-in_default c =
     fill_refused _ _ _ c.args.filled.now _ _ (checks_agree (goal.at.returns-in_default c).After-checked-outcome) (ap is_refused c.in_default.is)
-
-pub put_on-requires : goal.put_on-requires
-put_on-requires c =
-    let (whole, long, inside) = fill_right _ _ _ c.args.filled.now _ _ (checks_agree (goal.at.put_on-requires c).After-checked-outcome) c.in-Done.is in
-    (long, whole, inside)
-
-pub bounds-filled-shelf : goal.bounds-filled-shelf
-bounds-filled-shelf c =
-    (fill_right _ _ _ c.args.filled.now _ _ (checks_agree (goal.at.bounds-filled-shelf c).After-checked-outcome) c.in-Done.is).2
 
 pub returns : goal.returns
 returns c =
