@@ -135,14 +135,7 @@ fn quick_of(ticket: Ticket, known: bool) -> u16
 fn all_quick(slots: [Ticket; Limits::TEAMS], known: bool) -> [u16; Limits::TEAMS]
     ensures { QuickSlots known slots result }
 {
-    let mut quick = [0u16; Limits::TEAMS];
-    let mut team: usize = 0;
-    while team < Limits::TEAMS {
-        let ticket = slots[team];
-        quick[team] = quick_of(ticket, known);
-        team += 1;
-    }
-    quick
+    slots.map(|ticket| quick_of(ticket, known))
 }
 
 fn stopped(tickets: Tickets, consumed: usize, written: usize, stop: Stop) -> Streamed

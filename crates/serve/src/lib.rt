@@ -51,13 +51,8 @@ fn shift(buffer: &mut [u8], from: usize, have: usize) -> usize
     requires { (from ≤ have) × (have ≤ length buffer.old) }
     ensures { (result ≡ have - from) × (buffer.new ≡ shifted buffer.old from have) }
 {
-    let count = have - from;
-    let mut k: usize = 0;
-    while k < count {
-        buffer[k] = buffer[from + k];
-        k += 1;
-    }
-    count
+    buffer.copy_within(from..have, 0);
+    have - from
 }
 
 fn stream_front(
