@@ -9,11 +9,6 @@ unfoldable pub counts_at : ℕ → Plain → List ℕ
 counts_at station [] = []
 counts_at station (legs ∷ lists) = length (those_meeting station legs) ∷ counts_at station lists
 
--- Their sum.
-unfoldable pub sum_of : List ℕ → ℕ
-sum_of [] = 0
-sum_of (count ∷ counts) = count + sum_of counts
-
 -- The passages with a leg there, by counts that start with this passage's.
 unfoldable pub present_from : ℕ → List ℕ → List ℕ
 present_from passage [] = []

@@ -1,12 +1,12 @@
 // The legs of a book at a station: whether a leg is there, how many of each passage are, and how long their list is.
 #![tactic(auto)]
 
-ghost use Rattle.std.specs.Prelude.{◌≡◌, ◌+◌, ◌*◌, ◌≤◌, ◌<◌, length};
+ghost use Rattle.std.specs.Prelude.{◌≡◌, ◌+◌, ◌*◌, ◌≤◌, ◌<◌, length, sum};
 ghost use Rattle.words.specs.declared.LegLayout.TheVariants.{FourWords};
 ghost use Rattle.words.specs.Words.{passage_count, last_leg};
 ghost use Rattle.soundness.specs.InWords.{list_in, plain_in};
 ghost use Rattle.meeting.specs.Meeting.{those_meeting};
-ghost use Rattle.stations.specs.Counting.{counts_at, sum_of, with_passage, size_of};
+ghost use Rattle.stations.specs.Counting.{counts_at, with_passage, size_of};
 
 mod book;
 
@@ -14,7 +14,7 @@ pub use book::{LegsAlong, SoundBook, WrittenLeg};
 use words::Limits;
 
 // How much there is to list: the legs, the passages that have one there, and their pairs.
-#[derive(Clone, Copy)]
+#[derive(Clone, Copy, Default)]
 pub struct Size {
     pub legs: usize,
     pub passages: usize,
@@ -27,12 +27,6 @@ impl Size {
 
     // The words of a leg, or of a pair.
     pub const ENTRY: usize = 2;
-
-    const NONE: Size = Size {
-        legs: 0,
-        passages: 0,
-        pairs: 0,
-    };
 }
 
 // How many legs of a passage are there.
@@ -73,10 +67,10 @@ fn with_passage(size: Size, count: usize) -> Size
 
 // The size of the list, from the last passage on: each finds those after it counted.
 pub fn size_of(counts: [usize; Limits::PASSAGES as usize]) -> Size
-    requires { sum_of counts ≤ last_leg }
+    requires { sum counts ≤ last_leg }
     ensures { result ≡ size_of counts }
 {
-    let mut size = Size::NONE;
+    let mut size = Size::default();
     for count in counts.iter().rev() {
         size = with_passage(size, *count);
     }

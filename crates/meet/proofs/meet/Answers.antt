@@ -4,13 +4,14 @@ use mathlib.Core.Path.{◌≡◌, sym, ap, ◌∙◌}
 use Prim.Native.Nat.{◌≤◌}
 use native.Mathlib.Omega.{arith}
 use lib.ListN.{length}
+use Rattle.std.proofs.Common.{sum}
 use Rattle.words.specs.declared.LegLayout.TheVariants.{FourWords}
 use Rattle.words.specs.Words.{Words, words_in_book}
 use Rattle.soundness.specs.InWords.{plain_in}
 use Rattle.meeting.specs.Meeting.{station_list, at_front, meeting_of}
 use Rattle.meeting.specs.Statements.{longest_list}
 use Rattle.meeting.proofs.Telling.{refused_1, refused_15}
-use Rattle.stations.specs.Counting.{sum_of, list_length}
+use Rattle.stations.specs.Counting.{list_length}
 use Rattle.stations.proofs.Walking.{all_few}
 use Rattle.stations.proofs.Counting.{sum_counts}
 use Rattle.meet.proofs.Whole.{list_length_lem, words_few, refused_21, list_out}
@@ -38,7 +39,7 @@ pub size_of-size-requires : goal.size_of-size-requires
 size_of-size-requires c =
     let words = c.in-Some.whole.now in
     omega
-    (arith, ap sum_of c.counts_at-counts.ensures, sum_counts c.args.station (plain_in FourWords words), all_few words (sym c.is_plain.ensures ∙ c.if-not-is_plain.false) c.args.station)
+    (arith, ap sum c.counts_at-counts.ensures, sum_counts c.args.station (plain_in FourWords words), all_few words (sym c.is_plain.ensures ∙ c.if-not-is_plain.false) c.args.station)
 
 pub overflow_add-words : goal.overflow_add-words
 overflow_add-words c = omega (arith, few (goal.at.overflow_add-words c).After-size_of-size)

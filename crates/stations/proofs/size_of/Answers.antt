@@ -3,6 +3,7 @@ use mathlib.Core.Path.{◌≡◌, sym, subst}
 use mathlib.Core.List.{List}
 use Prim.Native.Nat.{ℕ}
 use native.Mathlib.Omega.{arith}
+use borrow.Author.Rules.{rules}
 use Rattle.stations.specs.declared.Size.{Size}
 use Rattle.stations.proofs.Counting.{Sized, sized_none, sized_next, sized_fits, sized_all}
 use Rattle.stations.proofs.size_of.Goals as goal
@@ -11,7 +12,8 @@ pub loop-count-init : goal.loop-count-init
 loop-count-init c =
     let counts = c.args.counts in
     let all : c.into_iter-count-iterator.result.iter.rest.now ≡ counts = cc in
-    subst (λ (left : List ℕ). Sized counts left (record { legs = 0; passages = 0; pairs = 0 })) (sym all) (sized_none counts)
+    let zero : c.default-size.result ≡ record { legs = 0; passages = 0; pairs = 0 } = search rules in
+    subst (λ (left : List ℕ). Sized counts left c.default-size.result) (sym all) (subst (λ (size : Size). Sized counts counts size) (sym zero) (sized_none counts))
 
 pub with_passage-size-requires : goal.with_passage-size-requires
 with_passage-size-requires c =
