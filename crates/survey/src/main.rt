@@ -39,10 +39,7 @@ fn read_more(mut stdin: Stdin, buffer: &mut [u8], have: usize) -> usize
     requires { have < length buffer.old }
     ensures { (have + result ≤ length buffer.old) × (take have buffer.new ≡ take have buffer.old) }
 {
-    match stdin.read(&mut buffer[have..]) {
-        Ok(got) => got,
-        Err(_) => 0,
-    }
+    stdin.read(&mut buffer[have..]).unwrap_or(0)
 }
 
 // One read, all that is done after it, one write.
@@ -78,9 +75,7 @@ fn serve_all(
 {
     let mut tickets = Tickets::fresh();
     let mut have: usize = 0;
-    let mut turns: u64 = 18446744073709551615;
-    while 0 < turns {
-        turns -= 1;
+    for _ in 0..u64::MAX {
         let served = serve_some(stdin, stdout, book, tickets, ranks, buffer, have, out);
         if !served.on {
             return;
