@@ -109,8 +109,10 @@ fn tell(stdout: Stdout, outcome: Outcome) -> io::Result<()> {
 }
 
 fn carry_case(stdout: Stdout, case: Case<'_>) -> io::Result<()> {
-    let old = desk::make_book(0, case.old_given);
-    let before = desk::make_book(case.value, case.second_given);
+    let mut old = [0; Room::WORDS];
+    let mut before = [case.value; Room::WORDS];
+    desk::set_words(&mut old, case.old_given);
+    desk::set_words(&mut before, case.second_given);
     let mut after = before;
     let second = &mut after[..case.second_words.min(Room::WORDS)];
     let outcome = carry::carry_over(

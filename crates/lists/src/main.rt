@@ -16,7 +16,7 @@
 // calls is the number, 0 if not refused. The output keeps what it holds from one call to the next.
 #![tactic(auto)]
 
-ghost use Rattle.std.specs.Prelude.{◌≤◌, length};
+ghost use Rattle.std.specs.Prelude.{◌≤◌};
 
 use calls::Outcome;
 use desk::Room;

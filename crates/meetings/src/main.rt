@@ -89,7 +89,10 @@ impl State {
             return Ok(());
         };
         match tag {
-            Tag::Begin => self.words = desk::make_book(0, call.carried),
+            Tag::Begin => {
+                self.words.fill(0);
+                desk::set_words(&mut self.words, call.carried);
+            }
             Tag::Change => desk::set_words(&mut self.words, call.carried),
             Tag::Meet => self.list_station(stdout, call)?,
         }
