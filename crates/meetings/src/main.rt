@@ -47,7 +47,7 @@ impl Output {
     const FORMER: u64 = u64::MAX;
 }
 
-// The words written, or the refusal; what is left is the words that have to be as they were.
+// Tells the words written, or the refusal; what comes back is the words that have to be as they were.
 fn tell_met(stdout: Stdout, met: Met, space: &[u64]) -> io::Result<&[u64]> {
     match met {
         Met::Written(written) => {
