@@ -70,7 +70,8 @@ fn is_spoiled(sector: &[u8], lent: usize, filling: u8) -> bool
 }
 
 fn check_case(stdout: Stdout, case: Case<'_>, filling: u8) -> io::Result<()> {
-    let words = desk::make_book(0, case.given);
+    let mut words = [0; Room::WORDS];
+    desk::set_words(&mut words, case.given);
     let book = &words[..case.words.min(Room::WORDS)];
     let lent = case.lent.min(Sector::MOST_LENT);
     let mut sector = [filling; Sector::BYTES];

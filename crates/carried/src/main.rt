@@ -10,9 +10,9 @@
 
 ghost use Rattle.std.specs.Prelude.{◌≤◌, length, IfSome};
 
+use frames::Refusal;
 use desk::records::{Given, Record, Records};
 use desk::{Room, records, text};
-use frames::Refusal;
 use std::io;
 use std::io::{Print, Stdout};
 use tickets::{Ticket, Tickets};
@@ -109,8 +109,10 @@ fn tell(stdout: Stdout, outcome: Result<(), Refusal>) -> io::Result<()> {
 }
 
 fn carry_case(stdout: Stdout, case: Case<'_>) -> io::Result<()> {
-    let old = desk::make_book(0, case.old_given);
-    let before = desk::make_book(case.value, case.second_given);
+    let mut old = [0; Room::WORDS];
+    let mut before = [case.value; Room::WORDS];
+    desk::set_words(&mut old, case.old_given);
+    desk::set_words(&mut before, case.second_given);
     let mut after = before;
     let second = &mut after[..case.second_words.min(Room::WORDS)];
     let outcome = carry::carry_over(

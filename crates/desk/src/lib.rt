@@ -1,6 +1,8 @@
 // What the programs share that make calls from standard input: room, what the input holds, and the text of answers.
 #![tactic(auto)]
 
+ghost use Rattle.std.specs.Prelude.{◌≤◌, length};
+
 use records::{Given, Records};
 use std::io::{Read, Stdin};
 use words::Limits;
@@ -22,7 +24,9 @@ impl Room {
 
 // Reads until the buffer is full, the input ends or a read fails: what has come. The buffer is an array, so that the length of a
 // million zeros is known by their type and is not counted.
-pub fn read_full<const N: usize>(mut stdin: Stdin, buffer: &mut [u8; N]) -> &[u8] {
+pub fn read_full<const N: usize>(mut stdin: Stdin, buffer: &mut [u8; N]) -> &[u8]
+    ensures { length result.now ≤ N }
+{
     let buffer = &mut buffer[..];
     let mut done = 0;
     while let Ok(count @ 1..) = stdin.read(&mut buffer[done..]) {
@@ -38,11 +42,4 @@ pub fn set_words(book: &mut [u64], given: &[u8]) {
             *place = value;
         }
     }
-}
-
-// The words of a book: those given, and else one value.
-pub fn make_book(value: u64, given: &[u8]) -> [u64; Room::WORDS] {
-    let mut book = [value; Room::WORDS];
-    set_words(&mut book, given);
-    book
 }

@@ -16,12 +16,12 @@
 // calls is the number, 0 if not refused. The output keeps what it holds from one call to the next.
 #![tactic(auto)]
 
-ghost use Rattle.std.specs.Prelude.{◌≤◌, length};
+ghost use Rattle.std.specs.Prelude.{◌≤◌};
 
+use frames::Refusal;
 use desk::Room;
 use desk::records::{Call, Records, UnknownTag};
 use desk::text::{Bytes, Numbers};
-use frames::Refusal;
 use std::fmt::Display;
 use std::io::{Print, Stdout};
 use std::{fmt, io};
@@ -35,11 +35,11 @@ impl Lent {
     // For one word more than a store has.
     const STORE: usize = Limits::SHELVES * Limits::WORDS + 1;
 
-    // As many as there are passages,
-    const ACCEPTED: usize = Limits::PASSAGES as usize;
+    // A table of ranks that can be in force has one for each passage.
+    const TABLE: usize = Limits::PASSAGES as usize;
 
-    // and for more.
-    const RANKS: usize = Lent::ACCEPTED + 8;
+    // For more ranks than there are passages.
+    const RANKS: usize = Lent::TABLE + 8;
 }
 
 enum Tag {
@@ -79,7 +79,8 @@ impl Digests<'_> {
     // The first above 2^32, so that no change of a single word goes unseen.
     const PRIME: u64 = 4294967311;
 
-    const HALF: u64 = 4294967296;
+    // How many numbers 32 bits can say.
+    const HALF: u64 = 1 << 32;
 }
 
 // A digest takes 32 bits at a time.
@@ -131,7 +132,7 @@ impl Ranks {
     }
 
     // The first ones, whether or not they are in force.
-    fn table(&self) -> [u16; Lent::ACCEPTED] {
+    fn table(&self) -> [u16; Lent::TABLE] {
         let Some(table) = self.room.first_chunk() else {
             unreachable!()
         };
@@ -139,13 +140,13 @@ impl Ranks {
     }
 
     // The first ones become those of the table, which are then in force.
-    fn with_table(self, table: &[u16; Lent::ACCEPTED]) -> Ranks {
+    fn with_table(self, table: &[u16; Lent::TABLE]) -> Ranks {
         let mut room = self.room;
-        let (first, _) = room.split_at_mut(Lent::ACCEPTED);
+        let (first, _) = room.split_at_mut(Lent::TABLE);
         first.copy_from_slice(table);
         Ranks {
             room,
-            count: Lent::ACCEPTED,
+            count: Lent::TABLE,
         }
     }
 
@@ -206,9 +207,7 @@ impl State {
         let (out, _) = out.split_at_mut(Room::OUTPUT.min(call.number as usize));
         let reply = book::call(book, *tickets, ranks.in_force(), call.carried, out);
         *tickets = reply.tickets;
-        let returned = reply
-            .written
-            .unwrap_or_else(|refusal| refusal.number() as usize);
+        let returned = reply.written.unwrap_or_else(|refusal| refusal.number() as usize);
         println!(stdout; "{returned}{}", Bytes(&out[..returned.min(out.len())]))
     }
 

@@ -47,7 +47,7 @@ impl Output {
     const FORMER: u64 = u64::MAX;
 }
 
-// The words written, or the refusal; what is left is the words that have to be as they were.
+// Tells the words written, or the refusal; what comes back is the words that have to be as they were.
 fn tell_met(stdout: Stdout, met: Result<usize, Refusal>, space: &[u64]) -> io::Result<&[u64]> {
     match met {
         Ok(written) => {
@@ -89,7 +89,10 @@ impl State {
             return Ok(());
         };
         match tag {
-            Tag::Begin => self.words = desk::make_book(0, call.carried),
+            Tag::Begin => {
+                self.words.fill(0);
+                desk::set_words(&mut self.words, call.carried);
+            }
             Tag::Change => desk::set_words(&mut self.words, call.carried),
             Tag::Meet => self.list_station(stdout, call)?,
         }

@@ -42,7 +42,8 @@ fn read_more(mut stdin: Stdin, buffer: &mut [u8], have: usize) -> usize
     stdin.read(&mut buffer[have..]).unwrap_or(0)
 }
 
-// One read, all that is done after it, one write.
+// One read, all that is done after it, one write. The book, the ranks and both buffers are lent each by itself, as `serve` takes
+// them: no heap, and the stream's contract is of each.
 fn serve_some(
     stdin: Stdin,
     stdout: Stdout,
