@@ -1,7 +1,7 @@
 -- Whether the ticket that a slot says is well made, by the parts in which the code asks it.
 use Prim.Native.Nat.{ℕ, zero, suc, ◌+◌, ◌≤◌, ◌<◌}
 use mathlib.Core.Path.{◌≡◌, refl, sym, ap, subst, ◌∙◌}
-use mathlib.Core.Bool.{Bool, true, false, cond, ◌||◌}
+use mathlib.Core.Bool.{Bool, true, false, cond}
 use mathlib.Core.List.{List, map}
 use native.Mathlib.Omega.{arith}
 use borrow.Author.Tests.{lt-ltb}
@@ -13,25 +13,12 @@ use Rattle.words.proofs.Tests.{second_or}
 use Rattle.words.specs.Words.{team_count, most_targets, most_named}
 use Rattle.tickets.specs.declared.Target.{Target}
 use Rattle.tickets.specs.declared.Phase.TheVariants.{NoTicket}
-use Rattle.tickets.specs.declared.Kind.TheVariants.{Edit, Stale, View}
 use Rattle.tickets.specs.declared.Ticket as Slot
 use Rattle.tickets.specs.Tickets.{no_ticket, ticket_of, has_ticket, stands_below, targets_in, words_in, named_in, is_view, most_of, all_well_made, counts_well_made, names_well_made, well_made, slot_well_made}
 use Rattle.tickets.specs.Table.{no_slot, table_of, table_with, stands_in, claims_in, phase_by, phase_of, standing, targets_of, gathered}
 use Rattle.tickets.proofs.Made.{too_few_lem, too_many_lem, bad_target, bad_counts, by_view}
 use Rattle.tickets.proofs.Gathering.{gathered_stands, gathered_gone, gathered_has}
 use Rattle.tickets.proofs.Tables.{slot_gathered, targets_alike}
-
--- An edit's ticket is no view's, whether stale or not, and a view's is, whatever its counts.
-pub edit_no_view : (claims : Bool) → false ≡ is_view (phase_by Edit claims)
-edit_no_view true = refl
-edit_no_view false = refl
-
-pub stale_no_view : (claims : Bool) → false ≡ is_view (phase_by Stale claims)
-stale_no_view claims = refl
-
-pub view_is_view : (claims : Bool) → true ≡ is_view (phase_by View claims)
-view_is_view true = refl
-view_is_view false = refl
 
 -- The most targets of a standing ticket, as the code asks it.
 pub most_told : (slot : Slot.Ticket) (view : Bool) (most : ℕ) → view ≡ is_view (phase_by slot.kind (claims_in slot)) → most ≡ cond view most_named most_targets → most ≡ most_of (phase_by slot.kind (claims_in slot))
