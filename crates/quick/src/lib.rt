@@ -46,18 +46,14 @@ fn chosen<T: Copy>(test: bool, yes: T, no: T) -> T
 fn is_plain(ticket: Ticket) -> bool
     ensures { result ≡ is_plain ticket }
 {
-    if ticket.done == 0 {
-        return true;
-    }
-    ticket.n <= ticket.claimed
+    ticket.done == 0 || ticket.n <= ticket.claimed
 }
 
 // How many targets a ticket may have done and still go the fast way.
 pub fn quick_swaps(ticket: Ticket) -> u16
     ensures { result ≡ quick_swaps ticket }
 {
-    let kind = ticket.kind;
-    match kind {
+    match ticket.kind {
         Kind::Edit => chosen(is_plain(ticket), ticket.n, 0),
         Kind::Stale => 0,
         Kind::View => 0,
@@ -99,20 +95,16 @@ pub fn try_quick(
     }
     let claims = ticket.claimed < ticket.n;
     let swap = swap_at(targets, slot, ticket);
-    let at = swap.word as usize;
-    let report = words::conditional_swap(book, at, swap.expected, swap.desired);
-    let found = report.found;
-    if found == swap.expected {
-        return Tried {
-            claims: claims,
-            found: found,
-            went: true,
-        };
-    }
+    let found = words::conditional_swap(
+        book,
+        swap.word as usize,
+        swap.expected,
+        swap.desired,
+    ).found;
     Tried {
-        claims: claims,
-        found: found,
-        went: words::is_held(swap.expected),
+        claims,
+        found,
+        went: found == swap.expected || words::is_held(swap.expected),
     }
 }
 
