@@ -34,10 +34,11 @@ def enums(text):
 
 
 def is_option_or_result(variants):
-    names = {name for name, fields in variants}
-    if len(variants) == 2 and any(fields for _, fields in variants):
+    names = {name for name, _ in variants}
+    with_fields = {name for name, fields in variants if fields}
+    if len(variants) == 2 and with_fields:
         return True
-    return bool(names & {"Refused", "OutOfRange", "End", "NoLeg"}) or names == {"Yes", "No", "WrongBookLength", "ScratchTooShort"}
+    return bool(with_fields & {"Refused", "End"}) or names == {"Yes", "No", "WrongBookLength", "ScratchTooShort"}
 
 
 def functions(text):

@@ -177,6 +177,7 @@ fn answer_frames(
     let mut quick = all_quick(slots, known);
     let mut at: usize = 0;
     let mut filled: usize = 0;
+    // A `while let` would lose the stop, which is returned.
     loop {
         let next = match dispatch::next_at(input, at, out.len() - filled) {
             Ok(next) => next,

@@ -12,7 +12,8 @@ pub struct Reply {
     pub tickets: Tickets,
 }
 
-// Where a frame that is not refused goes: to a look; or to a team, with its kind.
+// Where a frame that is not refused goes: to a look; or to a team, with its kind. A look is a place of its own, and not the lack of a
+// team, so that an Option would say less.
 #[derive(Clone, Copy)]
 pub enum Aim {
     Look,

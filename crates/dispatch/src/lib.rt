@@ -13,7 +13,8 @@ use calls::{Aim, Stop};
 use frames::{Answer, Frame, Kind, Refusal};
 use words::Limits;
 
-// A whole frame that stands at a place of the input: a team's step, or another of so many bytes.
+// A whole frame that stands at a place of the input: a team's step, or another of so many bytes. Neither is an error, so that it is
+// no Result.
 #[derive(Clone, Copy)]
 pub enum Ahead {
     Step(u16),

@@ -15,7 +15,8 @@ use words::Limits;
 pub mod numbers; // numbers in bytes, read and put
 pub mod head; // refusals 3 to 5, and the part after the kind
 
-// An answer; that to a look has the word's value, and none where the word is held.
+// An answer; that to a look has the word's value, and none where the word is held. A refusal is told like the others, and nothing is
+// left undone by it, so that it is no Result.
 #[derive(Clone, Copy)]
 pub enum Answer {
     Standing(u16),

@@ -50,7 +50,7 @@ pub fn read64(part: &[u8], at: usize) -> u64
     u64::from_le_bytes(bytes_at(part, at))
 }
 
-// The signed number that has these 16 bits.
+// The signed number that has these 16 bits. The scope names this form, so that it has a name of its own.
 pub fn signed(bits: u16) -> i16
     ensures { result ≡ signed_of bits }
 {

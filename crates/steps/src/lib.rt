@@ -9,7 +9,8 @@ ghost use Rattle.replies.specs.Leaving.{StepsIn, LeftBy};
 use replies::Left;
 use tickets::{Phase, Ticket, Tickets};
 
-// A step of a team whose ticket is well made, by its phase: one swap.
+// A step of a team whose ticket is well made, by its phase: one swap. A match, since what each may write is told by its own contract; a
+// table of closures would hide it.
 pub fn step(
     book: &mut [u64],
     targets: &mut [u64; Tickets::NUMBERS],

@@ -162,7 +162,7 @@ impl Ticket {
         }
     }
 
-    // The tries after one more.
+    // The tries after one more. The scope names the number at which they stop, so that it is compared with and not left to the type.
     fn tried(self) -> u32
         ensures { result ≡ one_more_try self.tries }
     {

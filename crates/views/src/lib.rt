@@ -72,7 +72,8 @@ fn values_seen(targets: &[u64; Tickets::NUMBERS], slot: usize, n: u16) -> Values
     Values { n, values }
 }
 
-// One step of a view that gives back: one conditional swap.
+// One step of a view that gives back: one conditional swap. It differs from an edit's in its last answer, which is worked out only then:
+// a function of both would be handed a closure for these two lines.
 pub fn view_give_back(
     book: &mut [u64],
     targets: &[u64; Tickets::NUMBERS],
