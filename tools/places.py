@@ -46,9 +46,10 @@ def functions(text):
     for match in re.finditer(r"\bfn (\w+)", text):
         start = match.start()
         open_brace = None
-        at, depth = match.end(), 0
+        at, brackets = match.end(), 0
         while at < len(text):
             char = text[at]
+            brackets += {"[": 1, "]": -1}.get(char, 0)
             if char == "{" and text[:at].rstrip().endswith(("requires", "ensures")) or (char == "{" and re.search(r"(requires|ensures)( \w+)? $", text[max(0, at - 40):at])):
                 depth, at = 1, at + 1
                 while depth:
@@ -58,7 +59,7 @@ def functions(text):
             if char == "{":
                 open_brace = at
                 break
-            if char == ";":
+            if char == ";" and brackets == 0:
                 break
             at += 1
         if open_brace is None:
@@ -127,7 +128,7 @@ def main():
                 stated[fact].add(f"{crate}::{function}")
             if re.search(r"while [^\n]*\{\n[^\n]*\[\w+\] = (?:\w+|\w+\[\w+(?: \+ \w+)?\]|\w+\[\w+\]);\n[^\n]* \+= 1;\n", body):
                 found["4 copying and filling by hand"].append(f"{crate}::{function}")
-            if re.search(r"match \w+ \{\s*0 => ", body) or re.fullmatch(r"(signed|wide|digit|kind_of|read64|read16|read32|put16|put32|put64|tell_flag|tell_clino|tell_phase|byte)", function) and "from_le_bytes" not in body and "to_le_bytes" not in body:
+            if re.search(r"match [a-z]\w* \{\s*0 => [^(\n]*,", body) and function != "try_from" or re.fullmatch(r"(signed|wide|digit|kind_of|read64|read16|read32|put16|put32|put64|tell_flag|tell_clino|tell_phase|byte)", function) and "from_le_bytes" not in body and "to_le_bytes" not in body:
                 found["4 conversion and printing by hand"].append(f"{crate}::{function}")
     for group in bodies.values():
         if len(group) > 1:

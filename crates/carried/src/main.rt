@@ -10,9 +10,9 @@
 
 ghost use Rattle.std.specs.Prelude.{◌≤◌, length, IfSome};
 
-use frames::Refusal;
 use desk::records::{Given, Record, Records};
 use desk::{Room, records, text};
+use frames::Refusal;
 use std::io;
 use std::io::{Print, Stdout};
 use tickets::{Ticket, Tickets};

@@ -158,7 +158,9 @@ impl State {
         let ranks = legs::fixed_ranks();
         let reply = book::call(book, tickets, &ranks, call.carried, out);
         self.tickets = reply.tickets;
-        let returned = reply.written.unwrap_or_else(|refusal| refusal.number() as usize);
+        let returned = reply
+            .written
+            .unwrap_or_else(|refusal| refusal.number() as usize);
         println!(stdout; "returns {returned} :{}", Bytes(out))?;
         text::tell_changes(stdout, &before, &self.words)?;
         tell_tickets(stdout, &self.tickets)

@@ -18,10 +18,10 @@
 
 ghost use Rattle.std.specs.Prelude.{◌≤◌};
 
-use frames::Refusal;
 use desk::Room;
 use desk::records::{Call, Records, UnknownTag};
 use desk::text::{Bytes, Numbers};
+use frames::Refusal;
 use std::fmt::Display;
 use std::io::{Print, Stdout};
 use std::{fmt, io};
@@ -207,7 +207,9 @@ impl State {
         let (out, _) = out.split_at_mut(Room::OUTPUT.min(call.number as usize));
         let reply = book::call(book, *tickets, ranks.in_force(), call.carried, out);
         *tickets = reply.tickets;
-        let returned = reply.written.unwrap_or_else(|refusal| refusal.number() as usize);
+        let returned = reply
+            .written
+            .unwrap_or_else(|refusal| refusal.number() as usize);
         println!(stdout; "{returned}{}", Bytes(&out[..returned.min(out.len())]))
     }
 
