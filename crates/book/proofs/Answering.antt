@@ -1,4 +1,5 @@
 -- A single frame answered, by the way that it goes: a step, or any other frame.
+use Rattle.std.specs.Prelude.{Result, Ok, Err}
 use native.Mathlib.Omega.{arith}
 use Prim.Native.Nat.{ℕ, ◌-◌, ◌≤◌}
 use native.Mathlib.Nat.{zero-add}
@@ -18,7 +19,7 @@ use Rattle.tickets.proofs.Tables.{slot_gathered}
 use Rattle.frames.specs.Numbers.{Bytes}
 use Rattle.frames.specs.Requests.{step_kind}
 use Rattle.frames.specs.Answers.{answer_frame, longest_answer, written, room_in, PutAt}
-use Rattle.calls.specs.declared.Aim.{Aim}
+use Rattle.calls.specs.Way.{Aim}
 use Rattle.calls.specs.Call.{Reply, call_of}
 use Rattle.calls.specs.Way.{Settled, aim_of, slot_of, settled_by}
 use Rattle.calls.proofs.Sending.{call_by}
@@ -31,18 +32,18 @@ use Rattle.book.specs.Quickly.{is_step_by}
 use Rattle.book.proofs.Stored.{stored_anew}
 
 -- What is no step by its aim is none.
-pub no_step_by : (aim : Aim) → is_step_by aim ≡ false → NoStep aim
-no_step_by (Aim.Refused number) other = tt
-no_step_by Aim.Look other = tt
-no_step_by (Aim.Team kind team) other = other
+pub no_step_by : (aim : Result Aim ℕ) → is_step_by aim ≡ false → NoStep aim
+no_step_by (Err number) other = tt
+no_step_by (Ok Aim.Look) other = tt
+no_step_by (Ok (Aim.Team kind team)) other = other
 
-step_settles : (words : Words) (ticket : Ticket) (ranks : Ranks) (frame : Bytes) (aim : Aim) → is_step_by aim ≡ true → step_by words ticket (slot_of aim) ≡ settled_by words ticket ranks frame aim
-step_settles words ticket ranks frame (Aim.Refused number) step = absurd (false≢true step)
-step_settles words ticket ranks frame Aim.Look step = absurd (false≢true step)
-step_settles words ticket ranks frame (Aim.Team kind team) step =
-    sym (step_by_lem words ticket ranks frame team) ∙ ap (λ (k : ℕ). settled_by words ticket ranks frame (Aim.Team k team)) (sym (eqb-true kind step_kind step))
+step_settles : (words : Words) (ticket : Ticket) (ranks : Ranks) (frame : Bytes) (aim : Result Aim ℕ) → is_step_by aim ≡ true → step_by words ticket (slot_of aim) ≡ settled_by words ticket ranks frame aim
+step_settles words ticket ranks frame (Err number) step = absurd (false≢true step)
+step_settles words ticket ranks frame (Ok Aim.Look) step = absurd (false≢true step)
+step_settles words ticket ranks frame (Ok (Aim.Team kind team)) step =
+    sym (step_by_lem words ticket ranks frame team) ∙ ap (λ (k : ℕ). settled_by words ticket ranks frame (Ok (Aim.Team k team))) (sym (eqb-true kind step_kind step))
 
-module _ (words : Words) (targets : List ℕ) (ranks : Ranks) (frame : Bytes) (aim : Aim) (slot : ℕ) (slotted : slot ≡ slot_of aim) (ticket : Slot.Ticket) where
+module _ (words : Words) (targets : List ℕ) (ranks : Ranks) (frame : Bytes) (aim : Result Aim ℕ) (slot : ℕ) (slotted : slot ≡ slot_of aim) (ticket : Slot.Ticket) where
   -- A step, none of which is tried on the fast way.
   pub step_answered : (tried : Tried) (left : Slot.Ticket) (after : Words) (targets_after : List ℕ) (out : Bytes) (at place : ℕ) (output : Bytes) → is_step_by aim ≡ true
       → tried ≡ untried
@@ -97,7 +98,7 @@ put_front out answer place output ((counted, fits), (filled, long)) = λ i. (cou
         ∙ append-nil (answer ++ drop (length answer) out)
 
 -- The call, from what the code has: where the frame is aimed, its slot, what it left there, and what was written.
-pub answered_call : (words : Words) (table : Table.Tickets) (ranks : Ranks) (frame out : Bytes) (aim : Aim) (slot : ℕ) (left : Slot.Ticket) (targets : List ℕ) (after : Words) (count : ℕ) (output : Bytes)
+pub answered_call : (words : Words) (table : Table.Tickets) (ranks : Ranks) (frame out : Bytes) (aim : Result Aim ℕ) (slot : ℕ) (left : Slot.Ticket) (targets : List ℕ) (after : Words) (count : ℕ) (output : Bytes)
     → aim ≡ aim_of frame
     → slot ≡ slot_of aim
     → SettledAs (settled_by words (gathered table.targets slot (get_or table.slots slot no_slot)) ranks frame aim) targets slot left after out 0 count output

@@ -2,3 +2,4 @@ pub mod Stored
 pub mod Turning
 pub mod Stepping
 pub mod Answering
+pub mod Returned

@@ -1,4 +1,5 @@
 -- A turn of the stream, by the way that its frame goes: a step on the fast way, any other step, and any other frame.
+use Rattle.std.specs.Prelude.{Result, Ok, Err}
 use native.Mathlib.Omega.{arith}
 use native.Mathlib.Decide.{ℕ_discrete, dec_lt}
 use Prim.Native.Nat.{ℕ, ◌+◌, ◌-◌, ◌<◌, ◌≤◌}
@@ -23,13 +24,11 @@ use Rattle.frames.specs.declared.Answer.TheVariants as Answer
 use Rattle.frames.specs.Numbers.{Bytes}
 use Rattle.frames.specs.Requests.{step_kind}
 use Rattle.frames.specs.Answers.{answer_frame, longest_answer, PutAt}
-use Rattle.calls.specs.declared.Aim.{Aim}
+use Rattle.calls.specs.Way.{Aim}
 use Rattle.calls.specs.Way.{Settled, AimKnown, aim_of, settled_by}
 use Rattle.calls.specs.Way as way
 use Rattle.calls.specs.declared.Stop.{Stop}
 use Rattle.calls.specs.declared.Stop.TheVariants.{MoreInput, OutputFull}
-use Rattle.calls.specs.declared.Next.{Next}
-use Rattle.calls.specs.declared.Next.TheVariants.{Frame, End}
 use Rattle.calls.specs.Stream.{next_at, stopped_or, streamed, stream_from}
 use Rattle.calls.proofs.Streaming.{stops, full}
 use Rattle.dispatch.specs.declared.Ahead.{Ahead}
@@ -49,7 +48,7 @@ abbrev pub Point : {A : Type 0} {B : A → Type 0} → ((c : A) → B c) → Typ
 Point {A} shown = A
 
 -- Where nothing is ahead to be answered, the stream ends.
-pub ends_ahead : (words : Words) (table : Table.Tickets) (ranks : Ranks) (input out : Bytes) (at filled most : ℕ) (stop : Stop) → length input - at ≤ most → ahead_of input at (length out - filled) ≡ Ahead.End stop
+pub ends_ahead : (words : Words) (table : Table.Tickets) (ranks : Ranks) (input out : Bytes) (at filled most : ℕ) (stop : Stop) → length input - at ≤ most → ahead_of input at (length out - filled) ≡ Err stop
     → stream_from most words (table_of table) ranks input out at filled ≡ (streamed (table_of table) at filled stop, words, out)
 unfolding ahead_of
 ends_ahead words table ranks input out at filled most stop enough ahead = elim (dec_lt at (length input)) [
@@ -57,71 +56,71 @@ ends_ahead words table ranks input out at filled most stop enough ahead = elim (
   | no none ↦
       let over : length input ≤ at = omega (arith, none) in
       ended most words table ranks input out at filled over
-      ∙ (λ i. (streamed (table_of table) at filled (ap stop_in (ap (λ (n : Next). stopped_or n Ahead.End answered_if) (sym (next_none input at over)) ∙ ahead) i), words, out))
+      ∙ (λ i. (streamed (table_of table) at filled (ap stop_in (ap (λ (n : Result ℕ Stop). stopped_or n Err answered_if) (sym (next_none input at over)) ∙ ahead) i), words, out))
 ]
   where
-    stop_in : Ahead → Stop
-    stop_in (Ahead.End stop) = stop
-    stop_in (Ahead.Step team) = MoreInput
-    stop_in (Ahead.Other size) = MoreInput
+    stop_in : Result Ahead Stop → Stop
+    stop_in (Err stop) = stop
+    stop_in (Ok (Ahead.Step team)) = MoreInput
+    stop_in (Ok (Ahead.Other size)) = MoreInput
 
-    ends : Ahead → Bool
-    ends (Ahead.End stop) = true
-    ends (Ahead.Step team) = false
-    ends (Ahead.Other size) = false
+    ends : Result Ahead Stop → Bool
+    ends (Err stop) = true
+    ends (Ok (Ahead.Step team)) = false
+    ends (Ok (Ahead.Other size)) = false
 
-    answered : (aim : Aim) (size : ℕ) → ahead_by aim size ≡ Ahead.End stop → ⊥
-    answered (Aim.Refused number) size e = false≢true (ap ends e)
-    answered Aim.Look size e = false≢true (ap ends e)
-    answered (Aim.Team kind team) size e = go (eqb kind step_kind) e
+    answered : (aim : Result Aim ℕ) (size : ℕ) → ahead_by aim size ≡ Err stop → ⊥
+    answered (Err number) size e = false≢true (ap ends e)
+    answered (Ok Aim.Look) size e = false≢true (ap ends e)
+    answered (Ok (Aim.Team kind team)) size e = go (eqb kind step_kind) e
       where
-        go : (step : Bool) → cond step (Ahead.Step team) (Ahead.Other size) ≡ Ahead.End stop → ⊥
+        go : (step : Bool) → cond step (Ok (Ahead.Step team)) (Ok (Ahead.Other size)) ≡ Err stop → ⊥
         go true e = false≢true (ap ends e)
         go false e = false≢true (ap ends e)
 
-    answered_if : ℕ → Ahead
-    answered_if size = cond (ltb (length out - filled) longest_answer) (Ahead.End OutputFull) (ahead_by (aim_of (frame_at input at size)) size)
+    answered_if : ℕ → Result Ahead Stop
+    answered_if size = cond (ltb (length out - filled) longest_answer) (Err OutputFull) (ahead_by (aim_of (frame_at input at size)) size)
 
-    by : 0 < most → (next : Next) → next_at input at ≡ next → stopped_or next Ahead.End answered_if ≡ Ahead.End stop
+    by : 0 < most → (next : Result ℕ Stop) → next_at input at ≡ next → stopped_or next Err answered_if ≡ Err stop
         → stream_from most words (table_of table) ranks input out at filled ≡ (streamed (table_of table) at filled stop, words, out)
-    by some (End found) is e = stops words (table_of table) ranks input out at filled most found some is ∙ (λ i. (streamed (table_of table) at filled (ap stop_in e i), words, out))
-    by some (Frame size) is e = full_or (dec_lt (length out - filled) longest_answer)
+    by some (Err found) is e = stops words (table_of table) ranks input out at filled most found some is ∙ (λ i. (streamed (table_of table) at filled (ap stop_in e i), words, out))
+    by some (Ok size) is e = full_or (dec_lt (length out - filled) longest_answer)
       where
         full_or : Dec (length out - filled < longest_answer) → stream_from most words (table_of table) ranks input out at filled ≡ (streamed (table_of table) at filled stop, words, out)
         full_or (yes short) =
             full words (table_of table) ranks input out at filled most size some is short
-            ∙ (λ i. (streamed (table_of table) at filled (ap stop_in (ap (λ b. cond b (Ahead.End OutputFull) (ahead_by (aim_of (frame_at input at size)) size)) (sym (lt-ltb (length out - filled) longest_answer short)) ∙ e) i), words, out))
-        full_or (no room) = absurd (answered (aim_of (frame_at input at size)) size (ap (λ b. cond b (Ahead.End OutputFull) (ahead_by (aim_of (frame_at input at size)) size)) (sym (le-ltb (length out - filled) longest_answer (omega (arith, room)))) ∙ e))
+            ∙ (λ i. (streamed (table_of table) at filled (ap stop_in (ap (λ b. cond b (Err OutputFull) (ahead_by (aim_of (frame_at input at size)) size)) (sym (lt-ltb (length out - filled) longest_answer short)) ∙ e) i), words, out))
+        full_or (no room) = absurd (answered (aim_of (frame_at input at size)) size (ap (λ b. cond b (Err OutputFull) (ahead_by (aim_of (frame_at input at size)) size)) (sym (le-ltb (length out - filled) longest_answer (omega (arith, room)))) ∙ e))
 
 -- A frame that is ahead as no step is none.
-pub other_than_step : (input : Bytes) (at room size : ℕ) (aim : Aim) → ahead_of input at room ≡ Ahead.Other size → aim ≡ aim_of (frame_at input at size) → NoStep aim
+pub other_than_step : (input : Bytes) (at room size : ℕ) (aim : Result Aim ℕ) → ahead_of input at room ≡ Ok (Ahead.Other size) → aim ≡ aim_of (frame_at input at size) → NoStep aim
 unfolding ahead_of
 other_than_step input at room size aim ahead aimed = by (next_at input at) ahead
   where
-    others : Ahead → Bool
-    others (Ahead.End stop) = false
-    others (Ahead.Step team) = false
-    others (Ahead.Other size) = true
+    others : Result Ahead Stop → Bool
+    others (Err stop) = false
+    others (Ok (Ahead.Step team)) = false
+    others (Ok (Ahead.Other size)) = true
 
-    size_in : Ahead → ℕ
-    size_in (Ahead.End stop) = 0
-    size_in (Ahead.Step team) = 0
-    size_in (Ahead.Other size) = size
+    size_in : Result Ahead Stop → ℕ
+    size_in (Err stop) = 0
+    size_in (Ok (Ahead.Step team)) = 0
+    size_in (Ok (Ahead.Other size)) = size
 
-    told : (aim : Aim) (found : ℕ) → ahead_by aim found ≡ Ahead.Other size → NoStep aim × (found ≡ size)
-    told (Aim.Refused number) found e = (tt, ap size_in e)
-    told Aim.Look found e = (tt, ap size_in e)
-    told (Aim.Team kind team) found e = go (eqb kind step_kind) refl e
+    told : (aim : Result Aim ℕ) (found : ℕ) → ahead_by aim found ≡ Ok (Ahead.Other size) → NoStep aim × (found ≡ size)
+    told (Err number) found e = (tt, ap size_in e)
+    told (Ok Aim.Look) found e = (tt, ap size_in e)
+    told (Ok (Aim.Team kind team)) found e = go (eqb kind step_kind) refl e
       where
-        go : (step : Bool) → eqb kind step_kind ≡ step → cond step (Ahead.Step team) (Ahead.Other found) ≡ Ahead.Other size → (eqb kind step_kind ≡ false) × (found ≡ size)
+        go : (step : Bool) → eqb kind step_kind ≡ step → cond {A = Result Ahead Stop} step (Ok (Ahead.Step team)) (Ok (Ahead.Other found)) ≡ Ok (Ahead.Other size) → (eqb kind step_kind ≡ false) × (found ≡ size)
         go true is e = absurd (false≢true (ap others e))
         go false is e = (is, ap size_in e)
 
-    by : (next : Next) → stopped_or next Ahead.End (λ size. cond (ltb room longest_answer) (Ahead.End OutputFull) (ahead_by (aim_of (frame_at input at size)) size)) ≡ Ahead.Other size → NoStep aim
-    by (End stop) e = absurd (false≢true (ap others e))
-    by (Frame found) e = go (ltb room longest_answer) e
+    by : (next : Result ℕ Stop) → stopped_or next Err (λ size. cond (ltb room longest_answer) (Err OutputFull) (ahead_by (aim_of (frame_at input at size)) size)) ≡ Ok (Ahead.Other size) → NoStep aim
+    by (Err stop) e = absurd (false≢true (ap others e))
+    by (Ok found) e = go (ltb room longest_answer) e
       where
-        go : (short : Bool) → cond short (Ahead.End OutputFull) (ahead_by (aim_of (frame_at input at found)) found) ≡ Ahead.Other size → NoStep aim
+        go : (short : Bool) → cond short (Err OutputFull) (ahead_by (aim_of (frame_at input at found)) found) ≡ Ok (Ahead.Other size) → NoStep aim
         go true e = absurd (false≢true (ap others e))
         go false e =
             let (no_step, same) = told (aim_of (frame_at input at found)) found e in
@@ -159,7 +158,7 @@ few_stand slot few = go slot.kind (is_plain slot) few
 pub stands_made : (targets : List ℕ) (team : ℕ) (slot : Slot.Ticket) → slot.done < slot.n → SlotWellMade (gathered targets team slot) → (has_ticket (gathered targets team slot).phase ≡ true) × (well_made (gathered targets team slot) ≡ true)
 stands_made targets team slot below made = let has = gathered_has targets team slot ∙ lt-ltb slot.done slot.n below in (has, made has)
 
-module _ (turn : Turn) (team : ℕ) (is_step_lem : turn.aim ≡ Aim.Team step_kind team) (quick : List ℕ) (kept : QuickSlots turn.known turn.table.slots quick) where
+module _ (turn : Turn) (team : ℕ) (is_step_lem : turn.aim ≡ Ok (Aim.Team step_kind team)) (quick : List ℕ) (kept : QuickSlots turn.known turn.table.slots quick) where
   abbrev slot : Slot.Ticket
   slot = slot_of turn.table team
 
@@ -192,7 +191,7 @@ module _ (turn : Turn) (team : ℕ) (is_step_lem : turn.aim ≡ Aim.Team step_ki
   -- What the frame settles is the step.
   settles : settled_in turn ≡ step_by turn.words ticket team
   settles =
-      ap (λ (a : Aim). settled_by turn.words (gathered targets (way.slot_of a) (slot_of turn.table (way.slot_of a))) turn.ranks (frame_in turn) a) is_step_lem
+      ap (λ (a : Result Aim ℕ). settled_by turn.words (gathered targets (way.slot_of a) (slot_of turn.table (way.slot_of a))) turn.ranks (frame_in turn) a) is_step_lem
       ∙ step_by_lem turn.words ticket turn.ranks (frame_in turn) team
 
   -- What a step leaves, as the turn has it.
@@ -218,7 +217,7 @@ module _ (turn : Turn) (team : ℕ) (is_step_lem : turn.aim ≡ Aim.Team step_ki
       record { ticket_left = by.ticket_left; words_left = by.words_left; answered = by.answered }
 
 -- A swap on the fast way.
-module _ (turn : Turn) (team : ℕ) (is_step_lem : turn.aim ≡ Aim.Team step_kind team) (quick : List ℕ) (kept : QuickSlots turn.known turn.table.slots quick) (tried : Tried) (after : Words) (whole : length after ≡ words_in_book)
+module _ (turn : Turn) (team : ℕ) (is_step_lem : turn.aim ≡ Ok (Aim.Team step_kind team)) (quick : List ℕ) (kept : QuickSlots turn.known turn.table.slots quick) (tried : Tried) (after : Words) (whole : length after ≡ words_in_book)
     (is : ◌≡◌ {A = Tried × Words} (tried, after) (quick_tried turn.words turn.table.targets team (slot_of turn.table team) (get_or quick team 0))) where
   abbrev its_slot : Slot.Ticket
   its_slot = slot_of turn.table team

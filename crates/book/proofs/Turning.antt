@@ -1,4 +1,5 @@
 -- One turn of the stream, from what the code has there: what the frame leaves in its slot, the words, and its answer.
+use Rattle.std.specs.Prelude.{Result, Err}
 use native.Mathlib.Omega.{arith}
 use Prim.Native.Nat.{ℕ, zero, suc, ◌+◌, ◌-◌, ◌<◌, ◌≤◌}
 use mathlib.Core.Path.{◌≡◌, refl, sym, ap, subst, ◌∙◌}
@@ -17,9 +18,8 @@ use Rattle.tickets.proofs.MadeTables.{with_well_made}
 use Rattle.frames.specs.Numbers.{Bytes, are_bytes}
 use Rattle.frames.proofs.Bytes.{bytes_after}
 use Rattle.frames.specs.Answers.{answer_frame, PutAt}
-use Rattle.calls.specs.declared.Aim.{Aim}
+use Rattle.calls.specs.Way.{Aim}
 use Rattle.calls.specs.declared.Stop.TheVariants.{MoreInput}
-use Rattle.calls.specs.declared.Next.TheVariants.{End}
 use Rattle.calls.specs.Way as way
 use Rattle.calls.specs.Way.{Settled, AimKnown, aim_of, settled_by}
 use Rattle.calls.specs.Stream.{Streamed, next_at, streamed, stream_from}
@@ -46,7 +46,7 @@ pub record Goes (ranks : Ranks) (input : Bytes) (long : ℕ) (all : Streamed × 
   pub accepted : Accepted ranks
 
 -- Where no byte is left no frame stands, and it has ended.
-pub next_none : (input : Bytes) (at : ℕ) → length input ≤ at → next_at input at ≡ End MoreInput
+pub next_none : (input : Bytes) (at : ℕ) → length input ≤ at → next_at input at ≡ Err MoreInput
 unfolding next_at
 next_none input at none = rw (lt-ltb (length input - at) 2 (omega arith)) refl
 
@@ -71,7 +71,7 @@ pub record Turn : Type 0 where
   pub bytes : are_bytes input ≡ true
   pub size : ℕ
   pub ahead : FrameAhead input at (length out - filled) size
-  pub aim : Aim
+  pub aim : Result Aim ℕ
   pub aimed : aim_of (frame_at input at size) ≡ aim
   pub aim_known : AimKnown (frame_at input at size) aim
 

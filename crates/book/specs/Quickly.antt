@@ -1,10 +1,10 @@
 -- Which tickets of a table go the fast way, as the stream keeps it beside the table.
-use Rattle.std.specs.Prelude.{ℕ, ◌<◌, ◌≡◌, Bool, false, cond, List, eqb, length, get_or}
+use Rattle.std.specs.Prelude.{ℕ, ◌<◌, ◌≡◌, Bool, false, cond, List, eqb, length, get_or, Result, Ok, Err}
 use Rattle.words.specs.Words.{team_count}
 use Rattle.tickets.specs.declared.Ticket as Slot
 use Rattle.tickets.specs.Table.{no_slot}
 use Rattle.frames.specs.Requests.{step_kind}
-use Rattle.calls.specs.declared.Aim.{Aim}
+use Rattle.calls.specs.Way.{Aim}
 use Rattle.quick.specs.Quick.{quick_swaps}
 
 -- How many targets a ticket may have done and still go the fast way: none in a table that is not known to be well made.
@@ -18,7 +18,7 @@ pub record QuickSlots (known : Bool) (slots : List Slot.Ticket) (quick : List �
   pub each : (team : ℕ) → team < team_count → get_or quick team 0 ≡ quick_for known (get_or slots team no_slot)
 
 -- Whether a frame is a team's step, by its aim.
-abbrev pub is_step_by : Aim → Bool
-is_step_by (Aim.Refused number) = false
-is_step_by Aim.Look = false
-is_step_by (Aim.Team kind team) = eqb kind step_kind
+abbrev pub is_step_by : Result Aim ℕ → Bool
+is_step_by (Err number) = false
+is_step_by (Ok Aim.Look) = false
+is_step_by (Ok (Aim.Team kind team)) = eqb kind step_kind

@@ -5,9 +5,11 @@ ghost use Rattle.std.specs.Prelude.{◌≡◌, Bool, true, ℕ, ◌≤◌, ◌<�
 ghost use Rattle.words.specs.Words.{words_in_book};
 ghost use Rattle.legs.specs.Positions.{Accepted};
 ghost use Rattle.tickets.specs.Table.{table_with, table_of};
-ghost use Rattle.calls.specs.Call.{reply_of, call_of};
+ghost use Rattle.frames.specs.Refusals.{numbered, refusal_in};
+ghost use Rattle.calls.specs.Call.{call_of};
+ghost use Rattle.calls.specs.Returned.{reply_of, returned_refusal};
 ghost use Rattle.calls.specs.Stream.{streamed, streamed_of, stream_from, stream_of};
-ghost use Rattle.calls.specs.Way.{AimKnown, slot_of, settled_by};
+ghost use Rattle.calls.specs.Way.{aim_numbered, AimKnown, slot_of, settled_by};
 ghost use Rattle.replies.specs.Leaving.{RoomAt};
 ghost use Rattle.tickets.specs.Table.{gathered, ElsewhereSame};
 ghost use Rattle.handlers.specs.Settling.{SettledAs};
@@ -23,14 +25,16 @@ use tickets::{Ticket, Tickets};
 use words::Limits;
 
 // Whether a frame is a team's step.
-fn is_step(aim: Aim) -> bool
-    ensures { result ≡ is_step_by aim }
+fn is_step(aim: Result<Aim, Refusal>) -> bool
+    ensures { result ≡ is_step_by (aim_numbered aim) }
 {
-    match aim {
-        Aim::Refused(number) => false,
-        Aim::Look => false,
-        Aim::Team(kind, team) => kind == Kind::STEP,
-    }
+    let Ok(aim) = aim else {
+        return false;
+    };
+    let Aim::Team(kind, _) = aim else {
+        return false;
+    };
+    matches!(kind, Kind::Step)
 }
 
 // What a frame leaves in its slot, the table not known to be well made, and its answer at the front of the output.
@@ -41,11 +45,11 @@ fn answer(
     ticket: Ticket,
     slot: usize,
     frame: &[u8],
-    aim: Aim,
+    aim: Result<Aim, Refusal>,
     out: &mut [u8],
 ) -> Left
-    requires { (length book.old ≡ words_in_book) × AimKnown frame.now aim × (slot ≡ slot_of aim) × Accepted ranks.now × RoomAt out.old 0 }
-    ensures left { SettledAs (settled_by book.old (gathered targets.old slot ticket) ranks.now frame.now aim) targets.new slot result.ticket book.new out.old 0 result.filled out.new }
+    requires { (length book.old ≡ words_in_book) × AimKnown frame.now (aim_numbered aim) × (slot ≡ slot_of (aim_numbered aim)) × Accepted ranks.now × RoomAt out.old 0 }
+    ensures left { SettledAs (settled_by book.old (gathered targets.old slot ticket) ranks.now frame.now (aim_numbered aim)) targets.new slot result.ticket book.new out.old 0 result.filled out.new }
     ensures others { ElsewhereSame targets.old targets.new slot }
 {
     if is_step(aim) {
@@ -67,11 +71,11 @@ fn answer(
 }
 
 // What is returned where nothing is written.
-fn turned_away(tickets: Tickets, number: usize) -> Reply
-    ensures { (result.written ≡ number) × (result.tickets ≡ tickets) }
+fn turned_away(tickets: Tickets, refusal: Refusal) -> Reply
+    ensures { (result.written ≡ Err refusal) × (result.tickets ≡ tickets) }
 {
     Reply {
-        written: number,
+        written: Err(refusal),
         tickets: tickets,
     }
 }
@@ -84,16 +88,17 @@ pub fn call(
     frame: &[u8],
     out: &mut [u8],
 ) -> Reply
-    ensures { (reply_of result, book.new, out.new) ≡ call_of book.old (table_of tickets) ranks.now frame.now out.old }
+    ensures all { (reply_of result, book.new, out.new) ≡ call_of book.old (table_of tickets) ranks.now frame.now out.old }
+    ensures refusal { refusal_in (numbered result.written) ≡ returned_refusal book.old ranks.now out.old }
 {
     if book.len() != Limits::WORDS {
-        return turned_away(tickets, Refusal::BOOK);
+        return turned_away(tickets, Refusal::Book);
     }
     if !ranks::is_permutation(ranks) {
-        return turned_away(tickets, Refusal::RANKS);
+        return turned_away(tickets, Refusal::Ranks);
     }
     if out.len() < Answer::LONGEST {
-        return turned_away(tickets, Refusal::OUTPUT);
+        return turned_away(tickets, Refusal::Output);
     }
     let aim = dispatch::aim_of(frame);
     let slot = dispatch::slot_of(aim);
@@ -111,7 +116,7 @@ pub fn call(
     let after = left.ticket;
     tickets.slots[slot] = after;
     Reply {
-        written: left.filled,
+        written: Ok(left.filled),
         tickets: tickets,
     }
 }
@@ -130,14 +135,7 @@ fn quick_of(ticket: Ticket, known: bool) -> u16
 fn all_quick(slots: [Ticket; Limits::TEAMS], known: bool) -> [u16; Limits::TEAMS]
     ensures { QuickSlots known slots result }
 {
-    let mut quick = [0u16; Limits::TEAMS];
-    let mut team: usize = 0;
-    while team < Limits::TEAMS {
-        let ticket = slots[team];
-        quick[team] = quick_of(ticket, known);
-        team += 1;
-    }
-    quick
+    slots.map(|ticket| quick_of(ticket, known))
 }
 
 fn stopped(tickets: Tickets, consumed: usize, written: usize, stop: Stop) -> Streamed
@@ -179,10 +177,13 @@ fn answer_frames(
     let mut quick = all_quick(slots, known);
     let mut at: usize = 0;
     let mut filled: usize = 0;
+    // A `while let` would lose the stop, which is returned.
     loop {
-        let next = dispatch::next_at(input, at, out.len() - filled);
+        let next = match dispatch::next_at(input, at, out.len() - filled) {
+            Ok(next) => next,
+            Err(stop) => return stopped(table_with(slots, targets), at, filled, stop),
+        };
         match next {
-            Ahead::End(stop) => return stopped(table_with(slots, targets), at, filled, stop),
             Ahead::Step(team) => {
                 at += Frame::STEP;
                 let slot = team as usize;

@@ -1,4 +1,5 @@
 -- Loads of ranks, computed: which are refused and by which number, the ranks that they leave, and what is noted of them; and a frame under bad ranks.
+use Rattle.std.specs.Prelude.{Ok, Err}
 use Prim.Native.Nat.{ℕ}
 use mathlib.Core.Path.{◌≡◌, refl}
 use mathlib.Core.List.{List, [], ◌∷◌, ◌++◌, map}
@@ -13,7 +14,6 @@ use Rattle.edits.specs.Opened.{opened_ticket}
 use Rattle.frames.specs.Request.{Request, Open, Step, Look, View}
 use Rattle.frames.specs.declared.Answer.TheVariants as Answer
 use Rattle.frames.specs.Writing.{request_frame}
-use Rattle.calls.specs.declared.Outcome.TheVariants as Outcome
 use Rattle.calls.specs.Call.{refusal_of, call_of}
 use Rattle.calls.specs.Loading.{load_refusal, load_of}
 use Rattle.calls.specs.Run.{Call, loading, Heard, run}
@@ -69,11 +69,11 @@ unfolding every_load
 load_lengths = refl
 
 -- Ranks in force that are damaged do not stop a load; a refused load leaves them.
-load_repairs : load_of book fresh_tickets [] turned ≡ (Outcome.Done, turned)
+load_repairs : load_of book fresh_tickets [] turned ≡ (Ok tt, turned)
 unfolding every_load
 load_repairs = refl
 
-load_refused : load_of book standing twice turned ≡ (Outcome.Refused 14, twice)
+load_refused : load_of book standing twice turned ≡ (Err 14, twice)
 unfolding every_load
 load_refused = refl
 

@@ -9,7 +9,7 @@ use native.Mathlib.Omega.{arith}
 use lib.Dec.{eqb, leb, ltb, lit<}
 use lib.ListN.{length, drop, replicate, length-map}
 use lib.Seq.{drop_at}
-use borrow.Author.Tests.{leb-true, ltb-true, not-false, lt-ltb, leb-false}
+use borrow.Author.Tests.{leb-true, ltb-true, not-false, lt-ltb, leb-false, eq-eqb}
 use Rattle.words.specs.Tests.{all_hold, within}
 use Rattle.words.specs.Words.{Words, is_held, nobody, holder_of, most_named, read_of, team_count}
 use Rattle.words.proofs.Tests.{AllTrue, split, join}
@@ -18,8 +18,9 @@ use Rattle.tickets.specs.declared.Phase.TheVariants.{Claiming, Putting, GivingBa
 use Rattle.tickets.specs.Tickets.{Ticket, Tickets, target_at, targets_in, named_in, ticket_of, has_ticket, most_of, target_well_made, all_well_made, well_made}
 use Rattle.legs.specs.Positions.{Ranks}
 use Rattle.tickets.specs.declared.StepAnswer.TheVariants.{Waiting, Stale, Seen}
-use Rattle.tickets.specs.declared.LookAnswer.TheVariants.{Value, Held}
-use Rattle.tickets.specs.Steps.{Stepped, most_tries, one_more_try, value_noted, values_from, values_of, values_named, values_seen, settled, step_of}
+use Rattle.std.specs.Prelude.{None, Some}
+use Rattle.tickets.specs.Steps.{Stepped, most_tries, one_more_try, value_noted, in_room, values_named, values_seen, settled, step_of}
+use Rattle.tickets.proofs.Room.{room_long, few_in_room}
 use Rattle.tickets.proofs.TargetLists.{length_targets}
 use Rattle.tickets.proofs.Made.{well_made_parts, target_fits, made, counts_in}
 use Rattle.tickets.proofs.Outcomes.{Outcome, claims_one, claims_last, waits, differs_later, differs_first, puts_one, puts_last, returns_one, returns_last, notes_one, notes_last, view_waits, view_returns_one, view_returns_last, outcome}
@@ -34,20 +35,6 @@ use Rattle.calls.specs.Call.{team_unknown, own_ticket_badly_made, step_without_t
 use Rattle.calls.specs.Demand1.{TableFits, AnswersFit}
 use Rattle.calls.proofs.Refusing.{AllSorted, returned_small, refusal_sorted, passed, Sized, request_sized, standing_made}
 use Rattle.calls.proofs.Tables.{one_more_fits, count_most}
-
--- At most six values in their room are those values, and zeros behind them.
-abbrev in_room : List ℕ → List ℕ
-in_room values = values ++ replicate (most_named - length values) 0
-
-values_in_room : (n : ℕ) (values : List ℕ) → length values ≤ most_named → values_of (values_from n values) ≡ in_room values
-values_in_room n [] most = refl
-values_in_room n (a ∷ []) most = refl
-values_in_room n (a ∷ b ∷ []) most = refl
-values_in_room n (a ∷ b ∷ c ∷ []) most = refl
-values_in_room n (a ∷ b ∷ c ∷ d ∷ []) most = refl
-values_in_room n (a ∷ b ∷ c ∷ d ∷ e ∷ []) most = refl
-values_in_room n (a ∷ b ∷ c ∷ d ∷ e ∷ f ∷ []) most = refl
-values_in_room n (a ∷ b ∷ c ∷ d ∷ e ∷ f ∷ g ∷ more) most = absurd (omega arith)
 
 -- A value noted is one that a target quotes, or 0.
 value_small : (targets : List Target) (word : ℕ) → all_well_made targets ≡ true → value_noted targets word < 2 ^ 63
@@ -111,12 +98,12 @@ module _ (ticket : Ticket) (well : well_made ticket ≡ true) (tries : ticket.tr
       let values = values_named ticket in
       let zeros : List ℕ = replicate (most_named - length values) 0 in
       let many : length values ≡ ticket.n = length-map (named_in ticket) (value_noted (targets_in ticket)) ∙ length-map (targets_in ticket) (λ one. one.new) ∙ length_targets ticket in
-      let room = values_in_room ticket.n values (omega (arith, many, leb-true ticket.n most_named most)) in
-      let fit = join (map fits64 (in_room values)) (values_fit_lem (value_noted (targets_in ticket)) (λ word. value_small (targets_in ticket) word parts.targets) (named_in ticket) (most_named - length values)) in
+      let few = few_in_room values (omega (arith, many, leb-true ticket.n most_named most)) in
+      let room = in_room values in
+      let fit = join (map fits64 (values ++ zeros)) (values_fit_lem (value_noted (targets_in ticket)) (λ word. value_small (targets_in ticket) word parts.targets) (named_in ticket) (most_named - length values)) in
       let none_behind = ap all_zero (drop_at values zeros ticket.n many) ∙ join (map (eqb 0) zeros) (zeros_zero (most_named - length values)) in
-      let in_room_lem = values_of (values_seen ticket) in
-      join (within 1 most_named ticket.n ∷ all_hold (map fits64 in_room_lem) ∷ all_zero (drop ticket.n in_room_lem) ∷ [])
-      (number, (ap (λ (l : List ℕ). all_hold (map fits64 l)) room ∙ fit, (ap (λ (l : List ℕ). all_zero (drop ticket.n l)) room ∙ none_behind, tt)))
+      join (within 1 most_named ticket.n ∷ eqb (length room) most_named ∷ all_hold (map fits64 room) ∷ all_zero (drop ticket.n room) ∷ [])
+      (number, (eq-eqb (length room) most_named (room_long values), (ap (λ (l : List ℕ). all_hold (map fits64 l)) few ∙ fit, (ap (λ (l : List ℕ). all_zero (drop ticket.n l)) few ∙ none_behind, tt))))
 
   settled_fits : (found : ℕ) → Outcome ticket found → Fits (settled ticket found)
   unfolding Fits
@@ -152,7 +139,7 @@ module _ (ticket : Ticket) (well : well_made ticket ≡ true) (tries : ticket.tr
       subst Fits (sym (step_settled_lem words ticket team)) (settled_fits found (outcome ticket found stands))
 
 -- A look shows a value.
-look_fits : (words : Words) (word : ℕ) (held : Bool) → is_held (read_of words word) ≡ held → answer_fits (Answer.Look (cond held Held (Value (read_of words word)))) ≡ true
+look_fits : (words : Words) (word : ℕ) (held : Bool) → is_held (read_of words word) ≡ held → answer_fits (Answer.Look (cond held None (Some (read_of words word)))) ≡ true
 look_fits words word true e = refl
 look_fits words word false e = lt-ltb (read_of words word) (2 ^ 64) (omega (arith, leb-false (2 ^ 63) (read_of words word) e))
 

@@ -10,9 +10,8 @@ use borrow.Author.Tests.{eq-eqb}
 use Rattle.words.specs.Words.{words_in_book, team_count, most_targets}
 use Rattle.legs.specs.Positions.{Ranks}
 use Rattle.tickets.specs.Tickets.{Ticket, ticket_of, with_ticket, targets_in, words_in, has_ticket, names_well_made}
-use Rattle.tickets.specs.declared.LookAnswer.{LookAnswer}
-use Rattle.tickets.specs.declared.LookAnswer.TheVariants.{Value, Held}
-use Rattle.tickets.specs.Steps.{look_of}
+use Rattle.std.specs.Prelude.{None, Some}
+use Rattle.tickets.specs.Steps.{Looked, look_of}
 use Rattle.tickets.specs.Targets.{Claimable}
 use Rattle.tickets.specs.Invariant.{Invariant, OpenedTicket, StepKept, LookRight}
 use Rattle.tickets.proofs.Opening.{opening_keeps}
@@ -133,8 +132,8 @@ module _ {start : PlainState} (shared : Shared) (n : Notes) (table : TableFits s
   unfolding request_done
   look_kept word inside = by_answer (look_of shared.book word) (looks_right shared.book (ticket_of shared.tickets) (word_of (plain_from start n.order)) word good.agree (omega (arith, good.whole)))
     where
-      by_answer : (answer : LookAnswer) → LookRight (ticket_of shared.tickets) (word_of (plain_from start n.order)) word answer → Good start shared (hear_request n (Look word) (Answer.Look answer))
-      by_answer (Value value) agrees = record {
+      by_answer : (answer : Looked) → LookRight (ticket_of shared.tickets) (word_of (plain_from start n.order)) word answer → Good start shared (hear_request n (Look word) (Answer.Look answer))
+      by_answer (Some value) agrees = record {
         whole = good.whole;
         agree = subst (λ book. Invariant shared.book (ticket_of shared.tickets) (word_of book)) (sym (play_look n.order good.ordered word value)) good.agree;
         tied = good.tied;
@@ -152,7 +151,7 @@ module _ {start : PlainState} (shared : Shared) (n : Notes) (table : TableFits s
         tries = good.tries;
         in_turn = good.in_turn;
       }
-      by_answer Held holder = good
+      by_answer None holder = good
 
   request_kept : (request : Request) → Passes shared.tickets request → After request (request_done shared.book shared.tickets shared.ranks request)
   unfolding request_done

@@ -1,4 +1,5 @@
 -- A load of ranks keeps the invariant of a run; and they are accepted exactly when each of 0 to 31 occurs and no ticket stands.
+use Rattle.std.specs.Prelude.{Ok}
 use mathlib.Core.Path.{◌≡◌, refl, sym, ap, subst, ◌∙◌}
 use mathlib.Core.Bool.{Bool, true, false, cond, true≢false}
 use mathlib.Core.List.{[], ◌∷◌}
@@ -14,7 +15,7 @@ use Rattle.words.proofs.Tests.{split, join}
 use Rattle.legs.specs.Positions.{Ranks, all_occur_below, is_permutation, Accepted}
 use Rattle.legs.proofs.Ranks.{each}
 use Rattle.tickets.specs.Tickets.{Tickets, ticket_of, has_ticket, stands_below}
-use Rattle.calls.specs.declared.Outcome.{Outcome}
+use Rattle.calls.specs.Outcomes.{Outcome}
 use Rattle.calls.specs.Call.{book_length_wrong, ranks_wrong}
 use Rattle.calls.specs.Outcomes.{number_of, ticket_stands}
 use Rattle.calls.specs.Loading.{load_checks, load_refusal, loaded_by, load_of, EachOccurs, AcceptedExactly}
@@ -100,7 +101,7 @@ module _ (words : Words) (tickets : Tickets) (ranks loaded : Ranks) where
   abbrev Passes : Type 0
   Passes = (length words ≡ words_in_book) × EachOccurs loaded × ((team : ℕ) → team < team_count → has_ticket (ticket_of tickets team).phase ≡ false)
 
-  done_passes : (refusal : Option ℕ) → load_refusal words tickets loaded ≡ refusal → (loaded_by refusal ranks loaded).0 ≡ Outcome.Done → Passes
+  done_passes : (refusal : Option ℕ) → load_refusal words tickets loaded ≡ refusal → (loaded_by refusal ranks loaded).0 ≡ Ok tt → Passes
   done_passes none is e =
       let (whole, right, none_stands) = load_passes words tickets loaded is in
       (eqb-true _ _ (not-false _ whole), accepted_occur loaded (not-false _ right), none_below team_count tickets none_stands)

@@ -1,4 +1,5 @@
 -- An edit in minutes behaves as one in hundredths: the refusals test the same, and what is asked for is the same; so it has the same place in a list of calls.
+use Rattle.std.specs.Prelude.{Ok}
 use Prim.Native.Nat.{ℕ}
 use mathlib.Core.Path.{◌≡◌, refl, sym, ap, ◌∙◌}
 use mathlib.Core.List.{List, [], ◌∷◌, map}
@@ -10,7 +11,6 @@ use Rattle.legs.specs.Positions.{Ranks}
 use Rattle.tickets.specs.Tickets.{Tickets}
 use Rattle.edits.specs.declared.Edit.{Edit}
 use Rattle.frames.specs.declared.Answer.{Answer}
-use Rattle.frames.specs.declared.Header.TheVariants.{Kind}
 use Rattle.frames.specs.Request.{Open}
 use Rattle.frames.specs.Numbers.{Bytes}
 use Rattle.frames.specs.Requests.{part_after_kind, angles_of_kind, request_in}
@@ -26,7 +26,7 @@ use Rattle.calls.specs.Order.{Notes, hear_answer, hear_request, hear_call, notes
 use Rattle.calls.specs.Minutes.{BehaveAlike, MinutesBehave, MinutesFramesBehave, Twins, alike_frames, same_call, one_of, other_of, answer_to, AlikeInOrder}
 
 -- Two whole frames that ask for the same, their angles in range, are answered alike.
-module _ (frame other : Bytes) (kind kind' : ℕ) (header : header_of frame ≡ Kind kind) (header' : header_of other ≡ Kind kind') (angles : angle_out_of_range frame ≡ angle_out_of_range other) (same : request_in frame ≡ request_in other) where
+module _ (frame other : Bytes) (kind kind' : ℕ) (header : header_of frame ≡ Ok kind) (header' : header_of other ≡ Ok kind') (angles : angle_out_of_range frame ≡ angle_out_of_range other) (same : request_in frame ≡ request_in other) where
   refused_alike : (words : Words) (tickets : Tickets) (ranks : Ranks) (out : Bytes) → refusal_of words tickets ranks frame out ≡ refusal_of words tickets ranks other out
   unfolding refusal_of refusal_checks
   refused_alike words tickets ranks out =

@@ -1,4 +1,5 @@
 -- What a call returns and writes: refusals 1, 13 and 2, and else the answer of the frame's way.
+use Rattle.std.specs.Prelude.{Result, Ok, Err}
 use Prim.Native.Nat.{ℕ, ◌≤◌, ◌<◌}
 use mathlib.Core.Path.{◌≡◌, refl, sym, ap, ◌∙◌}
 use mathlib.Core.Bool.{Bool, true, false, cond}
@@ -14,17 +15,14 @@ use Rattle.tickets.specs.Tickets.{Ticket, Tickets, ticket_of, with_ticket, has_t
 use Rattle.tickets.specs.Steps.{step_of, look_of}
 use Rattle.edits.specs.declared.Edit.{Edit}
 use Rattle.edits.specs.Ranges.{edit_in_range, edit_repeats}
-use Rattle.edits.specs.Views.{view_in_range, view_repeats}
+use Rattle.edits.specs.Views.{view_in_range, view_repeats, view_of}
 use Rattle.frames.specs.declared.Answer.{Answer}
-use Rattle.frames.specs.declared.Header.{Header}
-use Rattle.frames.specs.declared.EditRead.TheVariants as EditRead
-use Rattle.frames.specs.declared.Reading.TheVariants as Reading
 use Rattle.frames.specs.Numbers.{Bytes, number16}
 use Rattle.frames.specs.Requests.{part_after_kind, step_kind, look_kind, view_kind, team_in, edit_of_kind, angles_of_kind, view_words_in}
 use Rattle.frames.specs.Answers.{answer_frame, longest_answer, written}
-use Rattle.frames.specs.Fields.{header_of, edit_read, read_edit, read_as, view_read}
+use Rattle.frames.specs.Fields.{header_of, edit_read, read_edit, view_read}
 use Rattle.frames.proofs.Headers.{refused_tests}
-use Rattle.calls.specs.declared.Aim.{Aim}
+use Rattle.calls.specs.Way.{Aim}
 use Rattle.calls.proofs.Refusing.{not_returned}
 use Rattle.calls.specs.Call.{Reply, refusal_checks, refusal_of, Done, done_of, number, bytes, sent_of, written_by, call_of}
 use Rattle.calls.specs.Way.{Settled, aim_by, aim_of, slot_of, settled_with, look_settled, open_settled, view_settled, step_settled, new_settled, team_settled, settled_by, way_done, way_of}
@@ -45,20 +43,20 @@ framed_sent (Answer.Look answer) f = refl
 framed_sent (Answer.Refused refusal) f = ap (λ b. cond b (number refusal) (bytes (answer_frame (Answer.Refused refusal)))) (not_returned refusal f.0 (λ e. omega (arith, f.1, e)))
 
 -- Every answer of the way is one.
-FramedAim : Aim → Type 0
-FramedAim (Aim.Refused refusal) = (3 ≤ refusal) × (refusal ≤ 11)
-FramedAim Aim.Look = Unit {0}
-FramedAim (Aim.Team kind team) = Unit {0}
+FramedAim : Result Aim ℕ → Type 0
+FramedAim (Err refusal) = (3 ≤ refusal) × (refusal ≤ 11)
+FramedAim (Ok Aim.Look) = Unit {0}
+FramedAim (Ok (Aim.Team kind team)) = Unit {0}
 
-header_framed : (frame : Bytes) (header : Header) → header_of frame ≡ header → FramedAim (aim_by frame header)
+header_framed : (frame : Bytes) (header : Result ℕ ℕ) → header_of frame ≡ header → FramedAim (aim_by frame header)
 unfolding FramedAim
-header_framed frame (Header.Refused refusal) e = elim (refused_tests frame refusal e) [
+header_framed frame (Err refusal) e = elim (refused_tests frame refusal e) [
   | inl t ↦ (omega (arith, t.1), omega (arith, t.1))
   | inr u ↦ elim u [ inl t ↦ (omega (arith, t.2), omega (arith, t.2)) | inr t ↦ (omega (arith, t.3), omega (arith, t.3)) ]
 ]
-header_framed frame (Header.Kind kind) e = go (eqb kind look_kind) (ltb (team_in (part_after_kind frame)) team_count)
+header_framed frame (Ok kind) e = go (eqb kind look_kind) (ltb (team_in (part_after_kind frame)) team_count)
   where
-    go : (look known : Bool) → FramedAim (cond look Aim.Look (cond known (Aim.Team kind (team_in (part_after_kind frame))) (Aim.Refused 6)))
+    go : (look known : Bool) → FramedAim (cond look (Ok Aim.Look) (cond known (Ok (Aim.Team kind (team_in (part_after_kind frame)))) (Err 6)))
     go true known = tt
     go false true = tt
     go false false = (lit≤ tt, lit≤ tt)
@@ -82,7 +80,7 @@ open_framed ticket ranks kind part = go (angles_of_kind kind part) (edit_in_rang
     edit : Edit
     edit = edit_of_kind kind part
 
-    go : (angles range repeats : Bool) → Framed (open_settled ticket ranks (cond angles (cond range (cond repeats (EditRead.Refused 11) (EditRead.Is edit)) (EditRead.Refused 10)) (EditRead.Refused 10))).answer
+    go : (angles range repeats : Bool) → Framed (open_settled ticket ranks (cond angles (cond range (cond repeats (Err 11) (Ok edit)) (Err 10)) (Err 10))).answer
     go true true true = (lit≤ tt, lit≤ tt)
     go true true false = tt
     go true false repeats = (lit≤ tt, lit≤ tt)
@@ -92,7 +90,7 @@ view_framed : (ticket : Ticket) (ranks : Ranks) (n : ℕ) (words : List ℕ) →
 unfolding view_settled view_read
 view_framed ticket ranks n words = go (view_in_range n words) (view_repeats words)
   where
-    go : (range repeats : Bool) → Framed (view_settled ticket ranks (cond range (cond repeats (read_as (Reading.Refused 11) []) (read_as Reading.Is words)) (read_as (Reading.Refused 10) []))).answer
+    go : (range repeats : Bool) → Framed (view_settled ticket ranks (cond range (cond repeats (Err 11) (Ok (view_of words))) (Err 10))).answer
     go true true = (lit≤ tt, lit≤ tt)
     go true false = tt
     go false repeats = (lit≤ tt, lit≤ tt)
@@ -119,11 +117,11 @@ team_framed words ticket ranks part kind team = go (has_ticket ticket.phase) (we
     go false made true = (lit≤ tt, lit≤ tt)
     go false made false = new_framed ticket ranks part kind
 
-settled_framed : (words : Words) (ticket : Ticket) (ranks : Ranks) (frame : Bytes) (aim : Aim) → FramedAim aim → Framed (settled_by words ticket ranks frame aim).0.answer
+settled_framed : (words : Words) (ticket : Ticket) (ranks : Ranks) (frame : Bytes) (aim : Result Aim ℕ) → FramedAim aim → Framed (settled_by words ticket ranks frame aim).0.answer
 unfolding settled_by FramedAim
-settled_framed words ticket ranks frame (Aim.Refused refusal) f = f
-settled_framed words ticket ranks frame Aim.Look f = look_framed words ticket (number16 (part_after_kind frame) 0)
-settled_framed words ticket ranks frame (Aim.Team kind team) f = team_framed words ticket ranks (part_after_kind frame) kind team
+settled_framed words ticket ranks frame (Err refusal) f = f
+settled_framed words ticket ranks frame (Ok Aim.Look) f = look_framed words ticket (number16 (part_after_kind frame) 0)
+settled_framed words ticket ranks frame (Ok (Aim.Team kind team)) f = team_framed words ticket ranks (part_after_kind frame) kind team
 
 way_framed : (words : Words) (tickets : Tickets) (ranks : Ranks) (frame : Bytes) → Framed (way_of words tickets ranks frame).answer
 unfolding way_of
@@ -166,7 +164,7 @@ unfolding call_of done_of refusal_of refusal_checks sent_of
 call_no_room words tickets ranks frame out whole accepted short = rw (eq-eqb (length words) words_in_book whole, accepted, lt-ltb (length out) longest_answer short) refl
 
 -- The same from what the code has: where the frame is aimed, its slot, what it settled, what was written.
-pub call_by : (words : Words) (tickets : Tickets) (ranks : Ranks) (frame out : Bytes) (aim : Aim) (slot : ℕ) (result : Settled) (after : Words) (count : ℕ) (output : Bytes)
+pub call_by : (words : Words) (tickets : Tickets) (ranks : Ranks) (frame out : Bytes) (aim : Result Aim ℕ) (slot : ℕ) (result : Settled) (after : Words) (count : ℕ) (output : Bytes)
     → aim ≡ aim_of frame
     → slot ≡ slot_of aim
     → ◌≡◌ {A = Settled × Words} (result, after) (settled_by words (ticket_of tickets slot) ranks frame aim)

@@ -1,4 +1,5 @@
 -- A stream is the list of single calls on the whole frames at the front of its input.
+use Rattle.std.specs.Prelude.{Ok, Err}
 use Prim.Native.Nat.{ℕ, zero, suc, ◌+◌, ◌*◌, ◌-◌, ◌≤◌}
 use native.Mathlib.Omega.{arith}
 use native.Mathlib.Decide.{dec_lt}
@@ -23,7 +24,6 @@ use Rattle.frames.specs.Answers.{answer_frame, longest_answer, room_in, with_roo
 use Rattle.frames.proofs.Framed.{answer_frames_sound}
 use Rattle.calls.specs.declared.Stop.{Stop}
 use Rattle.calls.specs.declared.Stop.TheVariants.{MoreInput, OutputFull, BadLength, NoBook, NoRanks}
-use Rattle.calls.specs.declared.Next.TheVariants.{Frame, End}
 use Rattle.calls.specs.Call.{Reply, check, first_of, refusal_of, request_done, refused_or, done_of, call_of}
 use Rattle.calls.specs.Way.{way_of}
 use Rattle.calls.specs.Run.{Shared, left_by, heard_of, run_from, sharing}
@@ -203,7 +203,7 @@ module _ (words : Words) (tickets : Tickets) (ranks : Ranks) (passed rest front 
       let w = length front in
       let field = field_at passed rest in
       let bytes : length input - at ≡ length rest = rest_length passed rest in
-      let next : next_at input at ≡ Frame size = sym (next_whole input at (omega arith) (omega arith) (omega arith)) ∙ ap (λ (field : ℕ). Frame (2 + field)) field in
+      let next : next_at input at ≡ Ok size = sym (next_whole input at (omega arith) (omega arith) (omega arith)) ∙ ap (λ (field : ℕ). Ok (2 + field)) field in
       let frame_is : take size (drop at input) ≡ frame = ap (take size) (drop-append_seam passed rest) in
       let called : call_of words tickets ranks (take size (drop at input)) (room_in out w) ≡ way_out room (way_of words tickets ranks frame) =
       (λ i. call_of words tickets ranks (frame_is i) (room_at front room i)) ∙ sym (call_way words tickets ranks frame room whole accepted long) in
@@ -229,7 +229,7 @@ right_from (suc most) words tickets ranks passed rest front room whole accepted 
     let field = field_at passed rest in
     let bytes : length input - at ≡ length rest = rest_length passed rest in
     let right : Streamed × Words × Bytes → Type 0 = RightFrom (sharing words tickets ranks) at rest front room in
-    let stops_by : (stop : Stop) → next_at input at ≡ End stop → StopRight stop rest (length room) → right (stream_from (suc most) words tickets ranks input out at w) =
+    let stops_by : (stop : Stop) → next_at input at ≡ Err stop → StopRight stop rest (length room) → right (stream_from (suc most) words tickets ranks input out at w) =
     λ stop next right_stop. subst right (sym (stops words tickets ranks input out at w (suc most) stop (omega arith) next)) (stopped words tickets ranks at rest front room stop right_stop) in
     elim (dec_lt (length rest) 2) [
       | yes few ↦ stops_by MoreInput (sym (next_short input at (omega arith))) (inl few)

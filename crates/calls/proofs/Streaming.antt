@@ -1,4 +1,5 @@
 -- One turn of the stream: it ends, it stops, it finds no room, or it goes on with one call.
+use Rattle.std.specs.Prelude.{Result, Ok, Err}
 use Prim.Native.Nat.{ℕ, zero, suc, ◌+◌, ◌-◌, ◌<◌, ◌≤◌}
 use native.Mathlib.Nat.{not-suc-le-zero}
 use native.Mathlib.Omega.{arith}
@@ -12,10 +13,9 @@ use Rattle.tickets.specs.Tickets.{Tickets, ticket_of, with_ticket}
 use Rattle.frames.specs.declared.Answer.{Answer}
 use Rattle.frames.specs.Numbers.{Bytes, number16}
 use Rattle.frames.specs.Answers.{answer_frame, longest_answer, written, room_in, with_room}
-use Rattle.calls.specs.declared.Aim.{Aim}
+use Rattle.calls.specs.Way.{Aim}
 use Rattle.calls.specs.declared.Stop.{Stop}
 use Rattle.calls.specs.declared.Stop.TheVariants.{MoreInput, OutputFull, BadLength, NoBook, NoRanks}
-use Rattle.calls.specs.declared.Next.TheVariants.{Frame, End}
 use Rattle.calls.specs.Call.{Reply, call_of}
 use Rattle.calls.specs.Way.{Settled, aim_of, slot_of, settled_by}
 use Rattle.calls.specs.Survey.{longest_field}
@@ -23,19 +23,19 @@ use Rattle.calls.specs.Stream.{Streamed, next_at, streamed, stream_from, stream_
 use Rattle.calls.proofs.Sending.{call_by}
 
 -- The next frame, test by test.
-pub next_short : (input : Bytes) (at : ℕ) → length input - at < 2 → End MoreInput ≡ next_at input at
+pub next_short : (input : Bytes) (at : ℕ) → length input - at < 2 → Err MoreInput ≡ next_at input at
 unfolding next_at
 next_short input at short = rw (lt-ltb (length input - at) 2 short) refl
 
-pub next_bad : (input : Bytes) (at : ℕ) → 2 ≤ length input - at → longest_field < number16 input at → End BadLength ≡ next_at input at
+pub next_bad : (input : Bytes) (at : ℕ) → 2 ≤ length input - at → longest_field < number16 input at → Err BadLength ≡ next_at input at
 unfolding next_at
 next_bad input at long bad = rw (le-ltb (length input - at) 2 long, lt-ltb longest_field (number16 input at) bad) refl
 
-pub next_torn : (input : Bytes) (at : ℕ) → 2 ≤ length input - at → number16 input at ≤ longest_field → length input - at < 2 + number16 input at → End MoreInput ≡ next_at input at
+pub next_torn : (input : Bytes) (at : ℕ) → 2 ≤ length input - at → number16 input at ≤ longest_field → length input - at < 2 + number16 input at → Err MoreInput ≡ next_at input at
 unfolding next_at
 next_torn input at long small short = rw (le-ltb (length input - at) 2 long, le-ltb longest_field (number16 input at) small, lt-ltb (length input - at) (2 + number16 input at) short) refl
 
-pub next_whole : (input : Bytes) (at : ℕ) → 2 ≤ length input - at → number16 input at ≤ longest_field → 2 + number16 input at ≤ length input - at → Frame (2 + number16 input at) ≡ next_at input at
+pub next_whole : (input : Bytes) (at : ℕ) → 2 ≤ length input - at → number16 input at ≤ longest_field → 2 + number16 input at ≤ length input - at → Ok (2 + number16 input at) ≡ next_at input at
 unfolding next_at
 next_whole input at long small whole = rw (le-ltb (length input - at) 2 long, le-ltb longest_field (number16 input at) small, le-ltb (length input - at) (2 + number16 input at) whole) refl
 
@@ -45,12 +45,12 @@ module _ (words : Words) (tickets : Tickets) (ranks : Ranks) (input out : Bytes)
   ends zero none = refl
   ends (suc most) none = absurd (not-suc-le-zero none)
 
-  pub stops : (most : ℕ) (stop : Stop) → 0 < most → next_at input at ≡ End stop → stream_from most words tickets ranks input out at w ≡ (streamed tickets at w stop, words, out)
+  pub stops : (most : ℕ) (stop : Stop) → 0 < most → next_at input at ≡ Err stop → stream_from most words tickets ranks input out at w ≡ (streamed tickets at w stop, words, out)
   unfolding stream_from
   stops zero stop some e = absurd (not-suc-le-zero some)
   stops (suc most) stop some e = rw e refl
 
-  pub full : (most size : ℕ) → 0 < most → next_at input at ≡ Frame size → length out - w < longest_answer → stream_from most words tickets ranks input out at w ≡ (streamed tickets at w OutputFull, words, out)
+  pub full : (most size : ℕ) → 0 < most → next_at input at ≡ Ok size → length out - w < longest_answer → stream_from most words tickets ranks input out at w ≡ (streamed tickets at w OutputFull, words, out)
   unfolding stream_from
   full zero size some e short = absurd (not-suc-le-zero some)
   full (suc most) size some e short = rw (e, lt-ltb (length out - w) longest_answer short) refl
@@ -59,7 +59,7 @@ module _ (words : Words) (tickets : Tickets) (ranks : Ranks) (input out : Bytes)
   abbrev pub after : ℕ → ℕ → Reply × Words × Bytes → Streamed × Words × Bytes
   after most size call = stream_from most call.1 call.0.tickets ranks input (with_room out w call.2) (at + size) (w + call.0.written)
 
-  pub goes : (most size : ℕ) → 0 < most → next_at input at ≡ Frame size → longest_answer ≤ length out - w
+  pub goes : (most size : ℕ) → 0 < most → next_at input at ≡ Ok size → longest_answer ≤ length out - w
       → stream_from most words tickets ranks input out at w ≡ after (most - 1) size (call_of words tickets ranks (take size (drop at input)) (room_in out w))
   unfolding stream_from
   goes zero size some e room = absurd (not-suc-le-zero some)
@@ -74,8 +74,8 @@ pub add_less : (a b : ℕ) → a + b - a ≡ b
 add_less a b = omega arith
 
 -- One turn, from what the code has: what the frame settled, the table with its ticket stored, the answer written at w.
-pub turn : (words : Words) (tickets next : Tickets) (ranks : Ranks) (input out : Bytes) (at w most size : ℕ) (aim : Aim) (slot : ℕ) (result : Settled) (after_words : Words) (answer : Answer) (end_written : ℕ) (output : Bytes)
-    → 0 < most → next_at input at ≡ Frame size → longest_answer ≤ length out - w → length words ≡ words_in_book → Accepted ranks
+pub turn : (words : Words) (tickets next : Tickets) (ranks : Ranks) (input out : Bytes) (at w most size : ℕ) (aim : Result Aim ℕ) (slot : ℕ) (result : Settled) (after_words : Words) (answer : Answer) (end_written : ℕ) (output : Bytes)
+    → 0 < most → next_at input at ≡ Ok size → longest_answer ≤ length out - w → length words ≡ words_in_book → Accepted ranks
     → aim ≡ aim_of (take size (drop at input))
     → slot ≡ slot_of aim
     → ◌≡◌ {A = Settled × Words} (result, after_words) (settled_by words (ticket_of tickets slot) ranks (take size (drop at input)) aim)

@@ -3,14 +3,17 @@ use mathlib.Core.Path.{◌≡◌, refl, sym, ap, subst, ◌∙◌}
 use mathlib.Core.Bool.{true}
 use mathlib.Core.List.{List, [], ◌∷◌, ◌++◌, map}
 use mathlib.Core.Option.{some}
-use Prim.Native.Nat.{ℕ, ◌+◌, ◌≤◌, ◌<◌}
+use Prim.Native.Nat.{ℕ, ◌+◌, ◌≤◌, ◌<◌, min}
 use native.Mathlib.Omega.{arith}
-use lib.ListN.{length, set, take, get_or, length-map}
+use lib.ListN.{length, set, take, length-map}
 use Rattle.tickets.specs.declared.Phase.{Phase}
 use Rattle.tickets.specs.declared.Phase.TheVariants.{Claiming, Putting, GivingBack, Viewing, Viewed}
 use Rattle.tickets.specs.Tickets.{Ticket, no_ticket, ticket_of, target_at, targets_in, words_in, named_in, is_view, claims}
 use Rattle.tickets.specs.declared.StepAnswer.TheVariants.{Claimed, Waiting, Returned, Seen}
-use Rattle.tickets.specs.Steps.{advanced, noting, values_named, values_of, values_seen}
+use Rattle.tickets.specs.Steps.{advanced, noting, in_room, values_named, values_seen}
+use Rattle.tickets.proofs.Room.{few_in_room}
+use Rattle.words.specs.Words.{most_named}
+use lib.Seq.{take-append_seam}
 use Rattle.tickets.specs.Targets.{AllMatch}
 use Rattle.tickets.specs.Invariant.{FitTicket, StepKept, one_claimed, claimed_last, waiting, found_other, stale_at_once, put_one, put_last, returned_one, returned_last, viewed_one, viewed_last, view_waiting, view_returned_one, view_returned_last}
 use Rattle.tickets.proofs.TargetLists.{length_targets, targets_advanced}
@@ -26,25 +29,18 @@ use Rattle.calls.proofs.Ordered.{PlaceKept, play_reserved, order_reserved, play_
 use Rattle.calls.proofs.Tied.{UpTo, up_to_more, HeardViewed, ViewIn, Known, known_count}
 use Rattle.calls.proofs.Turns.{Good, asking, Turn, Leaving, Kept, still, left_as, fit, none_released, my_place, stays_as, ends_as, advances, heard_claim, heard_last}
 
--- Values in room for six, as many as there are.
-all_shown : (values : List ℕ) → length values ≤ 6
-    → take (length values) (get_or values 0 0 ∷ get_or values 1 0 ∷ get_or values 2 0 ∷ get_or values 3 0 ∷ get_or values 4 0 ∷ get_or values 5 0 ∷ []) ≡ values
-all_shown [] most = refl
-all_shown (a ∷ []) most = refl
-all_shown (a ∷ b ∷ []) most = refl
-all_shown (a ∷ b ∷ c ∷ []) most = refl
-all_shown (a ∷ b ∷ c ∷ d ∷ []) most = refl
-all_shown (a ∷ b ∷ c ∷ d ∷ e ∷ []) most = refl
-all_shown (a ∷ b ∷ c ∷ d ∷ e ∷ f ∷ []) most = refl
-all_shown (a ∷ b ∷ c ∷ d ∷ e ∷ f ∷ g ∷ values) most = absurd (omega arith)
-
 -- A view shows the plain words of the words named.
 view_shows : {size : ℕ} (ticket : Ticket) (plain : ℕ → ℕ) (words : List ℕ) → FitTicket size ticket → is_view ticket.phase ≡ true → named_in ticket ≡ words → AllMatch (targets_in ticket) plain
     → values_shown (values_seen ticket) ≡ map plain words
 view_shows {size} ticket plain words fit view names matches =
     let many : length (values_named ticket) ≡ ticket.n = length-map (named_in ticket) _ ∙ length-map (targets_in ticket) (λ one. one.new) ∙ length_targets ticket in
-    let most : length (values_named ticket) ≤ 6 = omega (arith, fit.few view, many) in
-    ap (λ n. take n (values_of (values_seen ticket))) (sym many) ∙ all_shown (values_named ticket) most ∙ values_named_lem size ticket plain fit view matches ∙ ap (map plain) names
+    let few : ticket.n ≤ most_named = fit.few view in
+    let shown : min ticket.n most_named ≡ ticket.n = omega arith in
+    ap (λ (k : ℕ). take k (in_room (values_named ticket))) (shown ∙ sym many)
+    ∙ ap (take (length (values_named ticket))) (few_in_room (values_named ticket) (omega arith))
+    ∙ take-append_seam (values_named ticket) _
+    ∙ values_named_lem size ticket plain fit view matches
+    ∙ ap (map plain) names
 
 -- A step of a view of which this was heard.
 module _ {start : PlainState} (words : List ℕ) (heard : Noted) (turn : Turn start (asking (a_view words) heard.ranks heard)) where

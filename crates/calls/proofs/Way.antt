@@ -1,4 +1,5 @@
 -- The way of a frame, as the code goes it, is what the call does where none of refusals 1, 13 and 2 applies.
+use Rattle.std.specs.Prelude.{Result, Ok, Err}
 use Prim.Native.Nat.{ℕ, ◌≤◌}
 use mathlib.Core.Path.{◌≡◌, refl, sym, ap, ◌∙◌}
 use mathlib.Core.List.{List, [], ◌∷◌}
@@ -20,14 +21,13 @@ use Rattle.edits.specs.Ranges.{edit_in_range, edit_repeats}
 use Rattle.edits.specs.Views.{view_in_range, view_repeats, opened_view}
 use Rattle.edits.proofs.Views.{words_named_lem}
 use Rattle.frames.specs.declared.Answer.{Answer}
-use Rattle.frames.specs.declared.Header.{Header}
 use Rattle.frames.specs.Request.{Request, Open, Step, Look, View}
 use Rattle.frames.specs.Numbers.{Bytes, number16}
 use Rattle.frames.specs.Requests.{kind_field, part_after_kind, step_kind, look_kind, view_kind, is_edit_kind, is_kind, team_in, edit_of_kind, angles_of_kind, view_words_in, request_of_kind, request_in}
 use Rattle.frames.specs.Answers.{longest_answer}
 use Rattle.frames.specs.Fields.{frame_torn, kind_unknown, length_wrong, angle_out_of_range, request_out_of_range, field_repeated, header_of, edit_read, read_edit, view_read}
 use Rattle.frames.proofs.Headers.{edit_kind_lem, other_kind, kind_tests, refused_tests, edit_asked, step_asked, look_asked, view_asked}
-use Rattle.calls.specs.declared.Aim.{Aim}
+use Rattle.calls.specs.Way.{Aim}
 use Rattle.calls.specs.Call.{team_unknown, own_ticket_badly_made, opens_over_ticket, step_without_ticket, refusal_checks, refusal_of, Done, done, request_done, refused_or, done_of}
 use Rattle.calls.proofs.Refusing.{first_from}
 use Rattle.calls.specs.Way.{aim_by, aim_of, slot_of, settled_with, look_settled, open_settled, view_settled, new_settled, team_settled, settled_by, way_done, way_of, WayIsCall}
@@ -65,10 +65,10 @@ look_way words tickets ranks word = go (ltb word words_in_book)
     go false = slot_kept tickets 0 (Answer.Refused 10) words
 
 -- Where a team's frame goes.
-abbrev team_aim : ℕ → ℕ → Aim
-team_aim kind team = cond (ltb team team_count) (Aim.Team kind team) (Aim.Refused 6)
+abbrev team_aim : ℕ → ℕ → Result Aim ℕ
+team_aim kind team = cond (ltb team team_count) (Ok (Aim.Team kind team)) (Err 6)
 
-abbrev aim_done : Words → Tickets → Ranks → Bytes → Aim → Done
+abbrev aim_done : Words → Tickets → Ranks → Bytes → Result Aim ℕ → Done
 aim_done words tickets ranks frame aim = way_done tickets (slot_of aim) (settled_by words (ticket_of tickets (slot_of aim)) ranks frame aim)
 
 -- A step: refusals 6, 7 and 9, or the step.
@@ -78,7 +78,7 @@ step_way words tickets ranks frame team = go (ltb team team_count) (has_ticket (
   where
     go : (known stands made : Bool) → has_ticket (ticket_of tickets team).phase ≡ stands → well_made (ticket_of tickets team) ≡ made
         → refused_or (first_from 6 (not known ∷ all_hold (stands ∷ not made ∷ []) ∷ false ∷ not stands ∷ some_holds (false ∷ false ∷ []) ∷ false ∷ [])) words tickets ranks (Step team)
-        ≡ aim_done words tickets ranks frame (cond known (Aim.Team step_kind team) (Aim.Refused 6))
+        ≡ aim_done words tickets ranks frame (cond known (Ok (Aim.Team step_kind team)) (Err 6))
     go false stands made h w = slot_kept tickets 0 (Answer.Refused 6) words
     go true true true h w = rw (h, w) refl
     go true true false h w = rw (h, w) (slot_kept tickets team (Answer.Refused 7) words)
@@ -105,7 +105,7 @@ edit_way words tickets ranks frame kind is_edit =
 
     go : (known stands made angles range repeats : Bool) → has_ticket (ticket_of tickets team).phase ≡ stands → well_made (ticket_of tickets team) ≡ made → angles_of_kind kind (part_after_kind frame) ≡ angles → edit_in_range edit ≡ range → edit_repeats edit ≡ repeats
         → refused_or (first_from 6 (not known ∷ all_hold (stands ∷ not made ∷ []) ∷ stands ∷ false ∷ some_holds (not angles ∷ not range ∷ []) ∷ repeats ∷ [])) words tickets ranks (Open team edit)
-        ≡ aim_done words tickets ranks frame (cond known (Aim.Team kind team) (Aim.Refused 6))
+        ≡ aim_done words tickets ranks frame (cond known (Ok (Aim.Team kind team)) (Err 6))
     go false stands made angles range repeats h w a r s = slot_kept tickets 0 (Answer.Refused 6) words
     go true true true angles range repeats h w a r s = rw (h, w, other) (slot_kept tickets team (Answer.Refused 8) words)
     go true true false angles range repeats h w a r s = rw (h, w) (slot_kept tickets team (Answer.Refused 7) words)
@@ -133,7 +133,7 @@ view_way words tickets ranks frame =
 
     go : (known stands made range repeats : Bool) → has_ticket (ticket_of tickets team).phase ≡ stands → well_made (ticket_of tickets team) ≡ made → view_in_range n named ≡ range → view_repeats named ≡ repeats
         → refused_or (first_from 6 (not known ∷ all_hold (stands ∷ not made ∷ []) ∷ stands ∷ false ∷ some_holds (false ∷ not range ∷ []) ∷ repeats ∷ [])) words tickets ranks (View team n named)
-        ≡ aim_done words tickets ranks frame (cond known (Aim.Team view_kind team) (Aim.Refused 6))
+        ≡ aim_done words tickets ranks frame (cond known (Ok (Aim.Team view_kind team)) (Err 6))
     go false stands made range repeats h w r s = slot_kept tickets 0 (Answer.Refused 6) words
     go true true true range repeats h w r s = rw (h, w) (slot_kept tickets team (Answer.Refused 8) words)
     go true true false range repeats h w r s = rw (h, w) (slot_kept tickets team (Answer.Refused 7) words)
@@ -142,7 +142,7 @@ view_way words tickets ranks frame =
     go true false made false repeats h w r s = rw (h, r) (slot_kept tickets team (Answer.Refused 10) words)
 
 -- What the header says of the aim, the request and the kind.
-aim_by_lem : (frame : Bytes) (header : Header) → header_of frame ≡ header → aim_of frame ≡ aim_by frame header
+aim_by_lem : (frame : Bytes) (header : Result ℕ ℕ) → header_of frame ≡ header → aim_of frame ≡ aim_by frame header
 unfolding aim_of
 aim_by_lem frame header e = ap (aim_by frame) e
 
@@ -150,12 +150,12 @@ asked_by : (frame : Bytes) (kind : ℕ) → kind_field frame ≡ kind → reques
 unfolding request_in
 asked_by frame kind is = ap (λ (k : ℕ). request_of_kind k (part_after_kind frame)) is
 
-edit_left : (frame : Bytes) (kind : ℕ) → header_of frame ≡ Header.Kind kind → (kind ≡ look_kind → ⊥) → (kind ≡ step_kind → ⊥) → (kind ≡ view_kind → ⊥) → is_edit_kind kind ≡ true
+edit_left : (frame : Bytes) (kind : ℕ) → header_of frame ≡ Ok kind → (kind ≡ look_kind → ⊥) → (kind ≡ step_kind → ⊥) → (kind ≡ view_kind → ⊥) → is_edit_kind kind ≡ true
 edit_left frame kind header not_look not_step not_view =
     let (torn, unknown, wrong, is) = kind_tests frame kind header in
     other_kind kind (ap is_kind (sym is) ∙ not-false _ unknown) (ne_eqb kind step_kind not_step) (ne_eqb kind look_kind not_look) (ne_eqb kind view_kind not_view)
 
-look_done : (words : Words) (tickets : Tickets) (ranks : Ranks) (frame : Bytes) → later_done words tickets ranks false (Look (number16 (part_after_kind frame) 0)) ≡ aim_done words tickets ranks frame Aim.Look
+look_done : (words : Words) (tickets : Tickets) (ranks : Ranks) (frame : Bytes) → later_done words tickets ranks false (Look (number16 (part_after_kind frame) 0)) ≡ aim_done words tickets ranks frame (Ok Aim.Look)
 unfolding settled_by
 look_done words tickets ranks frame = look_way words tickets ranks (number16 (part_after_kind frame) 0)
 
@@ -165,13 +165,13 @@ module _ (words : Words) (tickets : Tickets) (ranks : Ranks) (frame out : Bytes)
   unfolding refusal_of refusal_checks
   from_three = rw (eq-eqb (length words) words_in_book whole, accepted, le-ltb (length out) longest_answer room) refl
 
-  refused_way : (number : ℕ) → header_of frame ≡ Header.Refused number → refusal_of words tickets ranks frame out ≡ some number → done_of words tickets ranks frame out ≡ way_of words tickets ranks frame
+  refused_way : (number : ℕ) → header_of frame ≡ Err number → refusal_of words tickets ranks frame out ≡ some number → done_of words tickets ranks frame out ≡ way_of words tickets ranks frame
   unfolding done_of way_of settled_by
   refused_way number header refusal =
-      let aimed : aim_of frame ≡ Aim.Refused number = aim_by_lem frame (Header.Refused number) header in
+      let aimed : aim_of frame ≡ Err number = aim_by_lem frame (Err number) header in
       rw (refusal, aimed) (slot_kept tickets 0 (Answer.Refused number) words)
 
-  kind_way : (kind : ℕ) (angle : Bool) (aim : Aim) (request : Request) → header_of frame ≡ Header.Kind kind → not (angles_of_kind kind (part_after_kind frame)) ≡ angle → aim_by frame (Header.Kind kind) ≡ aim → request_of_kind kind (part_after_kind frame) ≡ request
+  kind_way : (kind : ℕ) (angle : Bool) (aim : Result Aim ℕ) (request : Request) → header_of frame ≡ Ok kind → not (angles_of_kind kind (part_after_kind frame)) ≡ angle → aim_by frame (Ok kind) ≡ aim → request_of_kind kind (part_after_kind frame) ≡ request
       → later_done words tickets ranks angle request ≡ aim_done words tickets ranks frame aim
       → done_of words tickets ranks frame out ≡ way_of words tickets ranks frame
   unfolding done_of way_of
@@ -179,7 +179,7 @@ module _ (words : Words) (tickets : Tickets) (ranks : Ranks) (frame out : Bytes)
       let (torn, unknown, wrong, is) = kind_tests frame kind header in
       let request_is : request_in frame ≡ request = asked_by frame kind is ∙ asked in
       let angle_is : angle_out_of_range frame ≡ angle = ap (λ (k : ℕ). not (angles_of_kind k (part_after_kind frame))) is ∙ sent in
-      let aim_is : aim_of frame ≡ aim = aim_by_lem frame (Header.Kind kind) header ∙ aimed in
+      let aim_is : aim_of frame ≡ aim = aim_by_lem frame (Ok kind) header ∙ aimed in
       let six : refusal_of words tickets ranks frame out ≡ first_from 6 (later_tests tickets (angle_out_of_range frame) (request_in frame)) = from_three ∙ (λ i. first_from 3 (torn i ∷ unknown i ∷ wrong i ∷ later_tests tickets (angle_out_of_range frame) (request_in frame))) in
       ap (λ x. refused_or x words tickets ranks (request_in frame)) six
       ∙ (λ i. later_done words tickets ranks (angle_is i) (request_is i))
@@ -190,17 +190,17 @@ module _ (words : Words) (tickets : Tickets) (ranks : Ranks) (frame out : Bytes)
   no_angles : (kind other : ℕ) → kind ≡ other → not (angles_of_kind other (part_after_kind frame)) ≡ false → not (angles_of_kind kind (part_after_kind frame)) ≡ false
   no_angles kind other same untold = ap (λ (k : ℕ). not (angles_of_kind k (part_after_kind frame))) same ∙ untold
 
-  by_header : (header : Header) → header_of frame ≡ header → done_of words tickets ranks frame out ≡ way_of words tickets ranks frame
+  by_header : (header : Result ℕ ℕ) → header_of frame ≡ header → done_of words tickets ranks frame out ≡ way_of words tickets ranks frame
   unfolding angles_of_kind
-  by_header (Header.Refused number) e = refused_way number e (elim (refused_tests frame number e) [
+  by_header (Err number) e = refused_way number e (elim (refused_tests frame number e) [
     | inl t ↦ from_three ∙ rw t.0 (ap some (sym t.1))
     | inr u ↦ elim u [
       | inl t ↦ from_three ∙ rw (t.0, t.1) (ap some (sym t.2))
       | inr t ↦ from_three ∙ rw (t.0, t.1, t.2) (ap some (sym t.3))
     ]
   ])
-  by_header (Header.Kind kind) e = elim (ℕ_discrete kind look_kind) [
-    | yes look ↦ kind_way kind false Aim.Look (Look (number16 (part_after_kind frame) 0)) e (no_angles kind look_kind look refl) (rw (eq-eqb kind look_kind look) refl) (rw look (look_asked (part_after_kind frame))) (look_done words tickets ranks frame)
+  by_header (Ok kind) e = elim (ℕ_discrete kind look_kind) [
+    | yes look ↦ kind_way kind false (Ok Aim.Look) (Look (number16 (part_after_kind frame) 0)) e (no_angles kind look_kind look refl) (rw (eq-eqb kind look_kind look) refl) (rw look (look_asked (part_after_kind frame))) (look_done words tickets ranks frame)
     | no other ↦ elim (ℕ_discrete kind step_kind) [
       | yes step ↦ kind_way kind false (team_aim step_kind (team_in (part_after_kind frame))) (Step (team_in (part_after_kind frame))) e (no_angles kind step_kind step refl) (rw (ne_eqb kind look_kind other, step) refl) (rw step (step_asked (part_after_kind frame))) (step_way words tickets ranks frame (team_in (part_after_kind frame)))
       | no not_step ↦ elim (ℕ_discrete kind view_kind) [

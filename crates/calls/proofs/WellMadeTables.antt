@@ -1,4 +1,5 @@
 -- A table whose tickets are all well made stays so: the step keeps a ticket well made or ends it, and an edit or a view opens one that is.
+use Rattle.std.specs.Prelude.{Result, Ok, Err}
 use Prim.Native.Nat.{ℕ, zero, suc, ◌-◌, ◌<◌}
 use mathlib.Core.Path.{◌≡◌, refl, ap, ◌∙◌}
 use mathlib.Core.List.{List, [], ◌∷◌}
@@ -16,18 +17,16 @@ use Rattle.tickets.proofs.WellMade.{well_made_kept}
 use Rattle.tickets.proofs.MadeTables.{empty_well_made}
 use Rattle.edits.specs.declared.Edit.{Edit}
 use Rattle.edits.specs.Ranges.{edit_in_range, edit_repeats}
-use Rattle.edits.specs.Views.{view_in_range, view_repeats, opened_view}
+use Rattle.edits.specs.Views.{view_in_range, view_repeats, opened_view, view_of}
 use Rattle.edits.proofs.Stored.{opened_tickets_well_made}
 use Rattle.edits.proofs.Views.{words_named_lem, opened_views_well_made}
 use Rattle.frames.specs.declared.Answer.TheVariants as Answer
-use Rattle.frames.specs.declared.EditRead.TheVariants as EditRead
-use Rattle.frames.specs.declared.Reading.TheVariants as Reading
 use Rattle.frames.specs.Numbers.{Bytes, are_bytes, number16}
 use Rattle.frames.specs.Requests.{part_after_kind, step_kind, view_kind, length_of_kind, edit_of_kind, angles_of_kind, view_words_in}
-use Rattle.frames.specs.Fields.{edit_read, read_edit, read_as, view_read, ViewFields, FieldsOf}
+use Rattle.frames.specs.Fields.{edit_read, read_edit, view_read, ViewFields, FieldsOf}
 use Rattle.frames.proofs.Asked.{edit_stations}
 use Rattle.frames.proofs.Bytes.{first_byte, bytes_after}
-use Rattle.calls.specs.declared.Aim.{Aim}
+use Rattle.calls.specs.Way.{Aim}
 use Rattle.calls.specs.Way.{Settled, AimKnown, settled_with, look_settled, open_settled, view_settled, step_settled, new_settled, team_settled, settled_by}
 use Rattle.calls.proofs.Refusing.{named_many, fine_view}
 
@@ -58,7 +57,7 @@ open_well_made ticket ranks kind part bytes sound = go (angles_of_kind kind part
     edit = edit_of_kind kind part
 
     go : (angles range repeats : Bool) → edit_in_range edit ≡ range → edit_repeats edit ≡ repeats
-        → SlotWellMade (open_settled ticket ranks (cond angles (cond range (cond repeats (EditRead.Refused 11) (EditRead.Is edit)) (EditRead.Refused 10)) (EditRead.Refused 10))).ticket
+        → SlotWellMade (open_settled ticket ranks (cond angles (cond range (cond repeats (Err 11) (Ok edit)) (Err 10)) (Err 10))).ticket
     go true true true r s = sound
     go true true false r s = λ stands. opened_tickets_well_made ranks edit (join (edit_in_range edit ∷ not (edit_repeats edit) ∷ []) (r, (ap not s, tt))) (edit_stations kind part bytes)
     go true false repeats r s = sound
@@ -75,7 +74,7 @@ view_well_made_lem ticket ranks part fields sound = go (view_in_range n words) (
     words = view_words_in part
 
     go : (range repeats : Bool) → view_in_range n words ≡ range → view_repeats words ≡ repeats
-        → SlotWellMade (view_settled ticket ranks (cond range (cond repeats (read_as (Reading.Refused 11) []) (read_as Reading.Is words)) (read_as (Reading.Refused 10) []))).ticket
+        → SlotWellMade (view_settled ticket ranks (cond range (cond repeats (Err 11) (Ok (view_of words))) (Err 10))).ticket
     go true true r s = sound
     go true false r s = λ stands. ap (λ (named : List ℕ). well_made (opened_view ranks named)) (words_named_lem words) ∙ opened_views_well_made ranks words (fine_view n words (named_many part fields) r s)
     go false repeats r s = sound
@@ -96,8 +95,8 @@ team_well_made words ticket ranks part kind team fields bytes sound = go (has_ti
     go false made false true m f = view_well_made_lem ticket ranks part f sound
     go false made false false m f = open_well_made ticket ranks kind part bytes sound
 
-pub settled_well_made : (words : Words) (ticket : Ticket) (ranks : Ranks) (frame : Bytes) (aim : Aim) → AimKnown frame aim → are_bytes frame ≡ true → SlotWellMade ticket → SlotWellMade (settled_by words ticket ranks frame aim).0.ticket
+pub settled_well_made : (words : Words) (ticket : Ticket) (ranks : Ranks) (frame : Bytes) (aim : Result Aim ℕ) → AimKnown frame aim → are_bytes frame ≡ true → SlotWellMade ticket → SlotWellMade (settled_by words ticket ranks frame aim).0.ticket
 unfolding settled_by look_settled
-settled_well_made words ticket ranks frame (Aim.Refused number) known bytes sound = sound
-settled_well_made words ticket ranks frame Aim.Look known bytes sound = sound
-settled_well_made words ticket ranks frame (Aim.Team kind team) known bytes sound = team_well_made words ticket ranks (part_after_kind frame) kind team known.0.fields (bytes_after 4 frame bytes) sound
+settled_well_made words ticket ranks frame (Err number) known bytes sound = sound
+settled_well_made words ticket ranks frame (Ok Aim.Look) known bytes sound = sound
+settled_well_made words ticket ranks frame (Ok (Aim.Team kind team)) known bytes sound = team_well_made words ticket ranks (part_after_kind frame) kind team known.0.fields (bytes_after 4 frame bytes) sound

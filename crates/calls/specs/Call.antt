@@ -6,7 +6,6 @@ use Rattle.words.specs.Words.{Words, words_in_book, team_count}
 use Rattle.legs.specs.Positions.{Ranks, is_permutation}
 use Rattle.tickets.specs.Tickets.{Ticket, Tickets, ticket_of, with_ticket, has_ticket, well_made}
 use Rattle.tickets.specs.Steps.{Stepped, step_of, look_of}
-use Rattle.tickets.specs.Table.{table_of}
 use Rattle.edits.specs.Opened.{target_count, opened_ticket}
 use Rattle.edits.specs.Views.{opened_view}
 use Rattle.frames.specs.Request.{Request, Open, Step, Look, View}
@@ -15,7 +14,6 @@ use Rattle.frames.specs.Numbers.{Bytes}
 use Rattle.frames.specs.Requests.{request_in}
 use Rattle.frames.specs.Answers.{answer_frame, longest_answer, written}
 use Rattle.frames.specs.Fields.{frame_torn, kind_unknown, length_wrong, field_out_of_range, field_repeated}
-use Rattle.calls.specs.declared.Reply as Code
 
 -- 1. The book isn't 4,096 words long.
 abbrev pub book_length_wrong : Words → Bool
@@ -146,10 +144,6 @@ written_by out (bytes answer) = written out answer
 pub record Reply : Type 0 where
   pub written : ℕ
   pub tickets : Tickets
-
--- What the code's reply says.
-abbrev pub reply_of : Code.Reply → Reply
-reply_of reply = record { written = reply.written; tickets = table_of reply.tickets }
 
 -- What the call does, for every book, table, ranks, frame and output: return and tickets, the words, the output's bytes. It writes no rank.
 unfoldable pub call_of : Words → Tickets → Ranks → Bytes → Bytes → Reply × Words × Bytes

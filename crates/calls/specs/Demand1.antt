@@ -6,7 +6,7 @@ use Rattle.legs.specs.Positions.{Ranks}
 use Rattle.tickets.specs.declared.Tickets as Code
 use Rattle.tickets.specs.Tickets.{Tickets, ticket_of}
 use Rattle.tickets.specs.declared.StepAnswer.{StepAnswer}
-use Rattle.tickets.specs.declared.LookAnswer.{LookAnswer}
+use Rattle.tickets.specs.Steps.{Looked}
 use Rattle.tickets.specs.Steps.{most_tries}
 use Rattle.tickets.specs.Table.{table_of, slot_of}
 use Rattle.edits.specs.Opened.{target_count}
@@ -34,7 +34,7 @@ CodeTablesFit =
 pub data AnswerTo : Request → Answer → Type 0 where
   opened : (team : ℕ) {edit : _} → AnswerTo (Open team edit) (Answer.Standing (target_count edit))
   stepped : (team : ℕ) (answer : StepAnswer) → AnswerTo (Step team) (Answer.Step answer)
-  shown : (word : ℕ) (answer : LookAnswer) → AnswerTo (Look word) (Answer.Look answer)
+  shown : (word : ℕ) (answer : Looked) → AnswerTo (Look word) (Answer.Look answer)
   viewing : (team n : ℕ) {words : _} → AnswerTo (View team n words) (Answer.Standing (length words))
 
 -- Book and tickets keep every value.

@@ -1,11 +1,10 @@
 -- Demand 2: "Each edit opens exactly the ticket of document 01, each step is one conditional swap of the published method, each look one of its reads, over that paper's words, ranks and frames; a leg written into words reads out as the same leg, and only words of a leg read as one."
-use Rattle.std.specs.Prelude.{◌≡◌, cond, length}
+use Rattle.std.specs.Prelude.{◌≡◌, cond, length, None, Some}
 use Rattle.std.proofs.Math.Option.{none}
 use Rattle.words.specs.Words.{Words, is_held, read_of, swap_of}
 use Rattle.legs.specs.Positions.{Ranks, FixedRanksArePermutation, PositionsDiffer}
 use Rattle.legs.specs.Reading.{LegsReadBack, OnlyLegsRead}
 use Rattle.tickets.specs.Tickets.{Tickets, ticket_of, with_ticket}
-use Rattle.tickets.specs.declared.LookAnswer.TheVariants.{Held, Value}
 use Rattle.tickets.specs.Steps.{swap_tried, settled}
 use Rattle.tickets.specs.Swapping.{StepSwapsOneWord, ViewsTakeAnyValue, WaitingTellsHolder}
 use Rattle.edits.specs.Opened.{target_count, opened_ticket}
@@ -39,7 +38,7 @@ Does words tickets ranks (Step team) result =
 -- A look is one read (Figure 8, line 2) and changes nothing: a mark is Held, and a value is told.
 Does words tickets ranks (Look word) result =
     let found = read_of words word in
-    ResultIs result words tickets (Answer.Look (cond (is_held found) Held (Value found)))
+    ResultIs result words tickets (Answer.Look (cond (is_held found) None (Some found)))
 -- A view opens its ticket and changes no word.
 Does words tickets ranks (View team n named) result = ResultIs result words (with_ticket tickets team (opened_view ranks named)) (Answer.Standing (length named))
 

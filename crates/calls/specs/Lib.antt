@@ -1,4 +1,5 @@
 pub mod Call
+pub mod Returned
 pub mod Outcomes
 pub mod Loading
 pub mod Shelves

@@ -1,11 +1,11 @@
 -- Request 8, "The cave's own ranks": a load of ranks, a call without a frame.
-use Rattle.std.specs.Prelude.{ℕ, ◌<◌, ◌≡◌, List, [], ◌∷◌, true, false, ◌↔◌, length}
+use Rattle.std.specs.Prelude.{ℕ, ◌<◌, ◌≡◌, List, [], ◌∷◌, true, false, ◌↔◌, length, Ok}
 use Rattle.std.proofs.Math.Option.{Option, none, some}
 use Rattle.words.specs.Tests.{occurs}
 use Rattle.words.specs.Words.{Words, words_in_book, team_count, passage_count}
 use Rattle.legs.specs.Positions.{Ranks}
 use Rattle.tickets.specs.Tickets.{Tickets, ticket_of, has_ticket}
-use Rattle.calls.specs.declared.Outcome.{Outcome}
+use Rattle.calls.specs.Outcomes.{Outcome}
 use Rattle.calls.specs.Call.{Check, check, first_of, book_length_wrong, ranks_wrong}
 use Rattle.calls.specs.Outcomes.{outcome_of, ticket_stands}
 
@@ -36,5 +36,5 @@ EachOccurs ranks = (length ranks ≡ passage_count) × ((number : ℕ) → numbe
 abbrev pub AcceptedExactly : Type 0
 AcceptedExactly =
     (words : Words) (tickets : Tickets) (ranks loaded : Ranks)
-    → ((load_of words tickets ranks loaded).0 ≡ Outcome.Done)
+    → ((load_of words tickets ranks loaded).0 ≡ Ok tt)
     ↔ ((length words ≡ words_in_book) × EachOccurs loaded × ((team : ℕ) → team < team_count → has_ticket (ticket_of tickets team).phase ≡ false))

@@ -1,5 +1,5 @@
 -- Request 9: "The edit then behaves as one in hundredths, and is placed like it in the order of whole edits."
-use Rattle.std.specs.Prelude.{ℕ, ◌≡◌, List, map, true}
+use Rattle.std.specs.Prelude.{ℕ, ◌≡◌, List, map, true, Ok}
 use Rattle.std.proofs.Math.Option.{Option}
 use Rattle.words.specs.Tests.{all_hold}
 use Rattle.words.specs.Words.{Words}
@@ -8,7 +8,6 @@ use Rattle.legs.specs.Minutes.{angles_in_range}
 use Rattle.tickets.specs.Tickets.{Tickets}
 use Rattle.edits.specs.declared.Edit.{Edit}
 use Rattle.frames.specs.declared.Answer.{Answer}
-use Rattle.frames.specs.declared.Header.TheVariants.{Kind}
 use Rattle.frames.specs.Request.{Open}
 use Rattle.frames.specs.Numbers.{Bytes, are_bytes}
 use Rattle.frames.specs.Requests.{part_after_kind, request_in, angles_of_kind}
@@ -29,7 +28,7 @@ abbrev pub MinutesBehave : Type 0
 MinutesBehave =
     (frame : Bytes) (kind team : ℕ) (edit : Edit)
     → are_bytes frame ≡ true
-    → header_of frame ≡ Kind kind
+    → header_of frame ≡ Ok kind
     → angles_of_kind kind (part_after_kind frame) ≡ true
     → request_in frame ≡ Open team edit
     → BehaveAlike frame (request_frame (Open team edit))

@@ -1,14 +1,13 @@
 -- "A ticket's edit is the edit frame that opened it …", and a view is the frame that named its words: the order, the tickets that ended, and what is held, from frames and answers alone.
-use Rattle.std.specs.Prelude.{ℕ, zero, suc, ◌+◌, ◌≡◌, List, [], ◌∷◌, ◌++◌, map, Bool, true, false, cond, not, eqb, ltb, length, set}
+use Rattle.std.specs.Prelude.{ℕ, zero, suc, ◌+◌, ◌≡◌, List, [], ◌∷◌, ◌++◌, map, Bool, true, false, cond, not, None, Some, eqb, ltb, length, set}
 use Rattle.std.proofs.Math.Option.{Option, none, some}
 use Rattle.words.specs.Tests.{all_hold, some_holds, occurs}
 use Rattle.words.specs.Words.{team_count, shelf_count}
 use Rattle.tickets.specs.declared.StepAnswer.{StepAnswer}
 use Rattle.tickets.specs.declared.StepAnswer.TheVariants.{Claimed, Waiting, Found, Put, Returned, Granted, Stale, Seen}
-use Rattle.tickets.specs.declared.LookAnswer.{LookAnswer}
-use Rattle.tickets.specs.declared.LookAnswer.TheVariants.{Value, Held}
 use Rattle.tickets.specs.declared.Target.{Target}
 use Rattle.tickets.specs.Tickets.{target}
+use Rattle.tickets.specs.Steps.{Looked}
 use Rattle.edits.specs.declared.Edit.{Edit}
 use Rattle.legs.specs.Positions.{Ranks, fixed_ranks, position_by}
 use Rattle.edits.specs.Edits.{listed_targets}
@@ -258,12 +257,12 @@ abbrev pub hear_opened : Notes → ℕ → Asked → ℕ → Notes
 hear_opened n team asked targets = cond (eqb targets (count_asked asked)) (hear_standing n team (n.tickets team) asked) (note_out_of_turn n)
 
 -- A look is decided at Value.
-abbrev pub hear_look : Notes → ℕ → LookAnswer → Notes
-hear_look n word (Value value) = note_event n (looked word value)
-hear_look n word Held = n
+abbrev pub hear_look : Notes → ℕ → Looked → Notes
+hear_look n word (Some value) = note_event n (looked word value)
+hear_look n word None = n
 
 -- How an answer is heard, by what it is. "Every refusal is passed over."
-abbrev pub hear_by : Notes → (ℕ → Notes) → (StepAnswer → Notes) → (LookAnswer → Notes) → Answer → Notes
+abbrev pub hear_by : Notes → (ℕ → Notes) → (StepAnswer → Notes) → (Looked → Notes) → Answer → Notes
 hear_by n standing step look (Answer.Standing number) = standing number
 hear_by n standing step look (Answer.Step answer) = step answer
 hear_by n standing step look (Answer.Look answer) = look answer

@@ -4,7 +4,7 @@ use Rattle.std.proofs.Math.Option.{Option, none, some}
 use Rattle.words.specs.Tests.{some_holds}
 use Rattle.words.specs.Words.{Words, words_in_book, shelf_count, words_in_store}
 use Rattle.tickets.specs.Tickets.{Tickets}
-use Rattle.calls.specs.declared.Outcome.{Outcome}
+use Rattle.calls.specs.Outcomes.{Outcome}
 use Rattle.calls.specs.Call.{check, first_of, book_length_wrong}
 use Rattle.calls.specs.Outcomes.{outcome_of, ticket_stands}
 

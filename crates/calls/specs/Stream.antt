@@ -1,5 +1,5 @@
 -- The stream: all whole frames in a part of the input, answered one after another into a part of the output.
-use Rattle.std.specs.Prelude.{ℕ, zero, suc, ◌+◌, ◌*◌, ◌-◌, ◌<◌, ◌≤◌, ◌≡◌, ◌⊎◌, List, [], ◌∷◌, ◌++◌, cond, length, take, drop, eqb, ltb}
+use Rattle.std.specs.Prelude.{ℕ, zero, suc, ◌+◌, ◌*◌, ◌-◌, ◌<◌, ◌≤◌, ◌≡◌, ◌⊎◌, List, [], ◌∷◌, ◌++◌, cond, length, take, drop, eqb, ltb, Result, Ok, Err}
 use Rattle.std.proofs.Math.Option.{Option, none, some}
 use Rattle.words.specs.Tests.{Every}
 use Rattle.words.specs.Words.{Words, words_in_book}
@@ -11,8 +11,6 @@ use Rattle.frames.specs.Requests.{length_field}
 use Rattle.frames.specs.Answers.{longest_answer, room_in, with_room}
 use Rattle.calls.specs.declared.Stop.{Stop}
 use Rattle.calls.specs.declared.Stop.TheVariants.{MoreInput, OutputFull, BadLength, NoBook, NoRanks}
-use Rattle.calls.specs.declared.Next.{Next}
-use Rattle.calls.specs.declared.Next.TheVariants.{Frame, End}
 use Rattle.calls.specs.declared.Streamed as Code
 use Rattle.calls.specs.Call.{book_length_wrong, ranks_wrong, Check, check, first_of, call_of}
 use Rattle.calls.specs.Run.{Shared, Run, run_from, sharing}
@@ -20,16 +18,16 @@ use Rattle.frames.specs.Fields.{longest_frame}
 use Rattle.calls.specs.Survey.{longest_field, joined, all_written, calls_on}
 
 -- The bytes of the whole frame at a place of the input, or why there is none: a length field above 62, or bytes that are still to come.
-unfoldable pub next_at : Bytes → ℕ → Next
+unfoldable pub next_at : Bytes → ℕ → Result ℕ Stop
 next_at input at =
-    cond (ltb (length input - at) 2) (End MoreInput)
-    (cond (ltb longest_field (number16 input at)) (End BadLength)
-    (cond (ltb (length input - at) (2 + number16 input at)) (End MoreInput) (Frame (2 + number16 input at))))
+    cond (ltb (length input - at) 2) (Err MoreInput)
+    (cond (ltb longest_field (number16 input at)) (Err BadLength)
+    (cond (ltb (length input - at) (2 + number16 input at)) (Err MoreInput) (Ok (2 + number16 input at))))
 
 -- A whole frame lies inside the input.
-abbrev pub NextInside : Bytes → ℕ → Next → Type 0
-NextInside input at (End stop) = Unit {0}
-NextInside input at (Frame size) = (2 ≤ size) × (at + size ≤ length input)
+abbrev pub NextInside : Bytes → ℕ → Result ℕ Stop → Type 0
+NextInside input at (Err stop) = Unit {0}
+NextInside input at (Ok size) = (2 ≤ size) × (at + size ≤ length input)
 
 -- What a stream returns: the tickets, the bytes consumed and written, and why it stopped.
 pub record Streamed : Type 0 where
@@ -46,9 +44,9 @@ abbrev pub streamed : Tickets → ℕ → ℕ → Stop → Streamed
 streamed tickets consumed written stop = record { tickets = tickets; consumed = consumed; written = written; stop = stop }
 
 -- One of two, by the next frame.
-abbrev pub stopped_or : {A : Type 0} → Next → (Stop → A) → (ℕ → A) → A
-stopped_or (End stop) stopped go_on = stopped stop
-stopped_or (Frame size) stopped go_on = go_on size
+abbrev pub stopped_or : {A : Type 0} → Result ℕ Stop → (Stop → A) → (ℕ → A) → A
+stopped_or (Err stop) stopped go_on = stopped stop
+stopped_or (Ok size) stopped go_on = go_on size
 
 -- From a place of the input and one of the output on, for at most so many frames: each is one call, on what is left of the output, with the book and the tickets that the last one left, under the same ranks.
 unfoldable pub stream_from : ℕ → Words → Tickets → Ranks → Bytes → Bytes → ℕ → ℕ → Streamed × Words × Bytes

@@ -1,5 +1,6 @@
 -- The way of one frame, as the code goes it: where it is aimed, the slot it uses, what is made of the ticket there. It is shown equal to the call's definition.
-use Rattle.std.specs.Prelude.{ℕ, ◌-◌, ◌≤◌, ◌<◌, ◌≡◌, Bool, true, false, cond, not, length, eqb, ltb}
+use Rattle.edits.specs.declared.Edit.{Edit}
+use Rattle.std.specs.Prelude.{ℕ, ◌-◌, ◌≤◌, ◌<◌, ◌≡◌, Bool, true, false, cond, not, length, eqb, ltb, Result, Ok, Err}
 use Rattle.words.specs.Words.{Words, words_in_book, team_count}
 use Rattle.legs.specs.Positions.{Ranks, Accepted}
 use Rattle.tickets.specs.Tickets.{Ticket, Tickets, ticket_of, with_ticket, has_ticket, well_made}
@@ -8,38 +9,51 @@ use Rattle.edits.specs.declared.View.{View}
 use Rattle.edits.specs.Opened.{target_count, opened_ticket}
 use Rattle.edits.specs.Views.{words_named, opened_view}
 use Rattle.frames.specs.declared.Answer.{Answer}
-use Rattle.frames.specs.declared.Header.{Header}
-use Rattle.frames.specs.declared.EditRead.{EditRead}
-use Rattle.frames.specs.declared.Reading.{Reading}
-use Rattle.frames.specs.declared.ViewRead.{ViewRead}
 use Rattle.frames.specs.Numbers.{Bytes, number16}
 use Rattle.frames.specs.Requests.{part_after_kind, step_kind, look_kind, view_kind, length_of_kind, is_edit_kind, is_kind, team_in, view_words_in}
 use Rattle.frames.specs.Answers.{longest_answer}
 use Rattle.frames.specs.Fields.{header_of, read_edit, view_read, FieldsOf, Whole}
-use Rattle.calls.specs.declared.Aim.{Aim}
+use Rattle.calls.specs.declared.Aim as Code
+use Rattle.frames.specs.declared.Refusal.{Refusal}
+use Rattle.frames.specs.Refusals.{refusal_number}
+use Rattle.frames.specs.Kinds.{kind_number}
 use Rattle.calls.specs.Call.{Done, done, done_of}
 
--- Where a frame goes: back, refused by 3 to 6; to a look; or to a team, with its kind.
-abbrev pub aim_by : Bytes → Header → Aim
-aim_by frame (Header.Refused number) = Aim.Refused number
-aim_by frame (Header.Kind kind) =
-    let team = team_in (part_after_kind frame) in
-    cond (eqb kind look_kind) Aim.Look (cond (ltb team team_count) (Aim.Team kind team) (Aim.Refused 6))
+-- Where a frame that is not refused goes: to a look; or to a team, with the number of its kind.
+pub data Aim : Type 0 where
+  Look : Aim
+  Team : (kind team : ℕ) → Aim
 
-unfoldable pub aim_of : Bytes → Aim
+-- What the code's says, or the number of the refusal.
+abbrev pub aimed : Code.Aim → Aim
+aimed Code.Aim.Look = Aim.Look
+aimed (Code.Aim.Team kind team) = Aim.Team (kind_number kind) team
+
+abbrev pub aim_numbered : Result Code.Aim Refusal → Result Aim ℕ
+aim_numbered (Ok aim) = Ok (aimed aim)
+aim_numbered (Err refusal) = Err (refusal_number refusal)
+
+-- Where a frame goes: back, with the number of its refusal, 3 to 6; to a look; or to a team, with its kind.
+abbrev pub aim_by : Bytes → Result ℕ ℕ → Result Aim ℕ
+aim_by frame (Err number) = Err number
+aim_by frame (Ok kind) =
+    let team = team_in (part_after_kind frame) in
+    cond (eqb kind look_kind) (Ok Aim.Look) (cond (ltb team team_count) (Ok (Aim.Team kind team)) (Err 6))
+
+unfoldable pub aim_of : Bytes → Result Aim ℕ
 aim_of frame = aim_by frame (header_of frame)
 
 -- What is known of a frame that is not refused yet.
-abbrev pub AimKnown : Bytes → Aim → Type 0
-AimKnown frame (Aim.Refused number) = Unit {0}
-AimKnown frame Aim.Look = Whole frame look_kind
-AimKnown frame (Aim.Team kind team) = Whole frame kind × (kind ≡ look_kind → ⊥) × (team < team_count)
+abbrev pub AimKnown : Bytes → Result Aim ℕ → Type 0
+AimKnown frame (Err number) = Unit {0}
+AimKnown frame (Ok Aim.Look) = Whole frame look_kind
+AimKnown frame (Ok (Aim.Team kind team)) = Whole frame kind × (kind ≡ look_kind → ⊥) × (team < team_count)
 
 -- A team's number is below 16.
-abbrev pub SlotKnown : Aim → Type 0
-SlotKnown (Aim.Refused number) = Unit {0}
-SlotKnown Aim.Look = Unit {0}
-SlotKnown (Aim.Team kind team) = team < team_count
+abbrev pub SlotKnown : Result Aim ℕ → Type 0
+SlotKnown (Err number) = Unit {0}
+SlotKnown (Ok Aim.Look) = Unit {0}
+SlotKnown (Ok (Aim.Team kind team)) = team < team_count
 
 -- What is known where a team's frame is answered.
 pub record TeamFrame (words : Words) (part : Bytes) (kind team : ℕ) : Type 0 where
@@ -50,10 +64,10 @@ pub record TeamFrame (words : Words) (part : Bytes) (kind team : ℕ) : Type 0 w
   pub team_known : team < team_count
 
 -- The slot that a frame uses: its team's, else the first, which it leaves as it is.
-abbrev pub slot_of : Aim → ℕ
-slot_of (Aim.Refused number) = 0
-slot_of Aim.Look = 0
-slot_of (Aim.Team kind team) = team
+abbrev pub slot_of : Result Aim ℕ → ℕ
+slot_of (Err number) = 0
+slot_of (Ok Aim.Look) = 0
+slot_of (Ok (Aim.Team kind team)) = team
 
 -- What a frame makes of the ticket in its slot, and its answer.
 pub record Settled : Type 0 where
@@ -71,17 +85,14 @@ unfoldable pub look_settled : Words → Ticket → ℕ → Settled
 look_settled words ticket word = settled_with ticket (look_answer words word)
 
 -- An edit of a team without a ticket: the ticket that it opens, or refusal 10 or 11.
-unfoldable pub open_settled : Ticket → Ranks → EditRead → Settled
-open_settled ticket ranks (EditRead.Is edit) = settled_with (opened_ticket ranks edit) (Answer.Standing (target_count edit))
-open_settled ticket ranks (EditRead.Refused number) = settled_with ticket (Answer.Refused number)
+unfoldable pub open_settled : Ticket → Ranks → Result Edit ℕ → Settled
+open_settled ticket ranks (Ok edit) = settled_with (opened_ticket ranks edit) (Answer.Standing (target_count edit))
+open_settled ticket ranks (Err number) = settled_with ticket (Answer.Refused number)
 
 -- A view of a team without a ticket, likewise.
-abbrev pub reading_settled : Ticket → Ranks → View → Reading → Settled
-reading_settled ticket ranks view Reading.Is = settled_with (opened_view ranks (words_named view)) (Answer.Standing view.n)
-reading_settled ticket ranks view (Reading.Refused number) = settled_with ticket (Answer.Refused number)
-
-unfoldable pub view_settled : Ticket → Ranks → ViewRead → Settled
-view_settled ticket ranks read = reading_settled ticket ranks read.view read.reading
+unfoldable pub view_settled : Ticket → Ranks → Result View ℕ → Settled
+view_settled ticket ranks (Ok view) = settled_with (opened_view ranks (words_named view)) (Answer.Standing view.n)
+view_settled ticket ranks (Err number) = settled_with ticket (Answer.Refused number)
 
 abbrev pub step_settled : Stepped × Words → Settled × Words
 step_settled result = (settled_with result.0.ticket (Answer.Step result.0.answer), result.1)
@@ -111,10 +122,10 @@ abbrev pub opens_edit : Ticket → ℕ → Bool
 opens_edit ticket kind = cond (is_edit_kind kind) (not (has_ticket ticket.phase)) false
 
 -- What an aimed frame makes of the ticket in its slot and of the words, and its answer.
-unfoldable pub settled_by : Words → Ticket → Ranks → Bytes → Aim → Settled × Words
-settled_by words ticket ranks frame (Aim.Refused number) = (settled_with ticket (Answer.Refused number), words)
-settled_by words ticket ranks frame Aim.Look = (look_settled words ticket (number16 (part_after_kind frame) 0), words)
-settled_by words ticket ranks frame (Aim.Team kind team) = team_settled words ticket ranks (part_after_kind frame) kind team
+unfoldable pub settled_by : Words → Ticket → Ranks → Bytes → Result Aim ℕ → Settled × Words
+settled_by words ticket ranks frame (Err number) = (settled_with ticket (Answer.Refused number), words)
+settled_by words ticket ranks frame (Ok Aim.Look) = (look_settled words ticket (number16 (part_after_kind frame) 0), words)
+settled_by words ticket ranks frame (Ok (Aim.Team kind team)) = team_settled words ticket ranks (part_after_kind frame) kind team
 
 abbrev pub way_done : Tickets → ℕ → Settled × Words → Done
 way_done tickets slot result = done result.0.answer (with_ticket tickets slot result.0.ticket) result.1

@@ -2,28 +2,22 @@
 // calls; the code stands in the crate book.
 #![tactic(auto)]
 
+use frames::{Kind, Refusal};
 use tickets::Tickets;
 
-// What the call returns: the bytes written (1, 13 or 2 for those refusals), and the tickets.
+// What the call returns: the bytes written, or the refusal that is returned and written nowhere; and the tickets.
 #[derive(Clone, Copy)]
 pub struct Reply {
-    pub written: usize,
+    pub written: Result<usize, Refusal>,
     pub tickets: Tickets,
 }
 
-// What a call without a frame comes to: it went, or is refused by a number.
-#[derive(Clone, Copy)]
-pub enum Outcome {
-    Done,
-    Refused(u16),
-}
-
-// Where a frame goes: back, refused; to a look; or to a team, with its kind.
+// Where a frame that is not refused goes: to a look; or to a team, with its kind. A look is a place of its own, and not the lack of a
+// team, so that an Option would say less.
 #[derive(Clone, Copy)]
 pub enum Aim {
-    Refused(u16),
     Look,
-    Team(u16, u16),
+    Team(Kind, u16),
 }
 
 // Why a stream stopped: the rest is no whole frame yet; there is no room for an answer; a length field is too
@@ -44,11 +38,4 @@ pub struct Streamed {
     pub consumed: usize,
     pub written: usize,
     pub stop: Stop,
-}
-
-// The bytes of the next frame, or why there is none.
-#[derive(Clone, Copy)]
-pub enum Next {
-    Frame(usize),
-    End(Stop),
 }

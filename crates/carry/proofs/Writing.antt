@@ -1,11 +1,10 @@
 -- What the code writes is what is carried over: word by word, and the newer words leg by leg.
-use Prim.Native.Nat.{ℕ, zero, suc, ◌+◌, ◌/◌, ◌%◌, ◌≤◌, ◌<◌}
+use Prim.Native.Nat.{ℕ, zero, suc, ◌+◌, ◌-◌, ◌/◌, ◌%◌, ◌≤◌, ◌<◌}
 use mathlib.Core.Path.{◌≡◌, refl, sym, ap, ◌∙◌}
 use mathlib.Core.Bool.{Bool, true, false, cond}
 use mathlib.Core.Logic.{◌≢◌}
 use native.Mathlib.Omega.{arith}
 use native.Mathlib.Decide.{ℕ_discrete, dec_lt}
-use native.Mathlib.Numerals.{add-one}
 use lib.Dec.{eqb, leb}
 use lib.ListN.{length, set, length-set}
 use lib.Seq.{get_or-set_same, get_or-set_other, ext_get_or}
@@ -54,9 +53,10 @@ pub newers_none : (old words : Words) → newers_set old 0 words ≡ words
 unfolding newers_set
 newers_none old words = refl
 
-pub newers_next : (old : Words) (n : ℕ) (words : Words) → newers_set old (n + 1) words ≡ with_newer (newers_set old n words) (read_of old (link_word_in ThreeWords (n + 1))) (n + 1)
+pub newers_next : (old : Words) (leg : ℕ) (words : Words) → 1 ≤ leg → newers_set old leg words ≡ with_newer (newers_set old (leg - 1) words) (read_of old (link_word_in ThreeWords leg)) leg
 unfolding newers_set
-newers_next old n words = rw (add-one n)
+newers_next old zero words least = absurd (omega arith)
+newers_next old (suc n) words least = let less : n ≡ suc n - 1 = omega arith in ap (λ (m : ℕ). with_newer (newers_set old m words) (read_of old (link_word_in ThreeWords (suc n))) (suc n)) less
 
 -- What a link sets, and what it leaves.
 module _ (words : Words) (older leg : ℕ) where

@@ -5,12 +5,12 @@ ghost use Rattle.std.specs.Prelude.{◌≡◌, true, ℕ, ◌≤◌, ◌<◌, le
 ghost use Rattle.words.specs.declared.LegLayout.TheVariants.{ThreeWords};
 ghost use Rattle.words.specs.Words.{words_in_book, last_leg};
 ghost use Rattle.tickets.specs.Table.{table_of};
+ghost use Rattle.frames.specs.Refusals.{numbered};
 ghost use Rattle.soundness.specs.Checking.{is_sound_in};
 ghost use Rattle.soundness.specs.InWords.{plain_in};
 ghost use Rattle.carrying.specs.Carrying.{leg_above, words_from, carry_of};
 ghost use Rattle.carry.specs.Writing.{moved_word, with_newer, newers_set, LinksFit};
 
-use calls::Outcome;
 use frames::Refusal;
 use making::any_stands;
 use sound::{Scratch, is_sound};
@@ -18,8 +18,8 @@ use tickets::Tickets;
 use words::{LegLayout, Limits, link_word_in, newer_word};
 
 // A word of the second book before the newer words are set: a passage's as it was, a leg's moved, its fourth 0.
-fn moved_word(old: &[u64], word: u16) -> u64
-    requires { (length old.now ≡ words_in_book) × (word < words_in_book) }
+fn moved_word(old: &[u64; Limits::WORDS], word: u16) -> u64
+    requires { word < words_in_book }
     ensures { result ≡ moved_word old.now word }
 {
     let first = Limits::PASSAGE_WORDS * Limits::PASSAGES;
@@ -36,20 +36,17 @@ fn moved_word(old: &[u64], word: u16) -> u64
 }
 
 // Writes every word of the second book, whatever it held.
-fn move_words(old: &[u64], second: &mut [u64])
-    requires { (length old.now ≡ words_in_book) × (length second.old ≡ words_in_book) }
+fn move_words(old: &[u64; Limits::WORDS], second: &mut [u64; Limits::WORDS])
     ensures { second.new ≡ words_from (moved_word old.now) 0 words_in_book }
 {
-    let mut word: u16 = 0;
-    while word < Limits::WORDS as u16 {
-        second[word as usize] = moved_word(old, word);
-        word += 1;
+    for (word, value) in second.iter_mut().enumerate() {
+        *value = moved_word(old, word as u16);
     }
 }
 
 // The leg that a leg links to, if there is one, has that leg as its newer one.
-fn set_newer(second: &mut [u64], older: u64, leg: u16)
-    requires { (length second.old ≡ words_in_book) × (older ≤ last_leg) }
+fn set_newer(second: &mut [u64; Limits::WORDS], older: u64, leg: u16)
+    requires { older ≤ last_leg }
     ensures { second.new ≡ with_newer second.old older leg }
 {
     if older == 0 {
@@ -60,21 +57,18 @@ fn set_newer(second: &mut [u64], older: u64, leg: u16)
 }
 
 // Each leg is linked to by one leg at most, so one pass over the links finds every newer word.
-fn set_newers(old: &[u64], second: &mut [u64])
-    requires { ((length old.now ≡ words_in_book) × (length second.old ≡ words_in_book)) × LinksFit old.now }
+fn set_newers(old: &[u64; Limits::WORDS], second: &mut [u64; Limits::WORDS])
+    requires { LinksFit old.now }
     ensures { second.new ≡ newers_set old.now last_leg second.old }
 {
-    let mut done: u16 = 0;
-    while done < Limits::LAST_LEG {
-        done += 1;
-        let older = old[link_word_in(LegLayout::ThreeWords, done) as usize];
-        set_newer(second, older, done);
+    for leg in 1..=Limits::LAST_LEG {
+        let older = old[link_word_in(LegLayout::ThreeWords, leg) as usize];
+        set_newer(second, older, leg);
     }
 }
 
 // The check of the old book in its own layout, in bytes of its own.
-fn is_sound_old(old: &[u64]) -> bool
-    requires { length old.now ≡ words_in_book }
+fn is_sound_old(old: &[u64; Limits::WORDS]) -> bool
     ensures { result ≡ is_sound_in ThreeWords old.now }
 {
     let mut bits = [0u8; Scratch::OLD_BYTES];
@@ -82,13 +76,11 @@ fn is_sound_old(old: &[u64]) -> bool
 }
 
 // Whether a leg that the new layout does not have is in use: in a sound book its place tells.
-fn has_leg_above(old: &[u64]) -> bool
-    requires { (length old.now ≡ words_in_book) × (is_sound_in ThreeWords old.now ≡ true) }
+fn has_leg_above(old: &[u64; Limits::WORDS]) -> bool
+    requires { is_sound_in ThreeWords old.now ≡ true }
     ensures { result ≡ leg_above (plain_in ThreeWords old.now) }
 {
-    let mut leg = Limits::LAST_LEG;
-    while leg < Limits::LAST_OLD_LEG {
-        leg += 1;
+    for leg in Limits::LAST_LEG + 1..=Limits::LAST_OLD_LEG {
         let at = link_word_in(LegLayout::ThreeWords, leg) + 1;
         if old[at as usize] != 0 {
             return true;
@@ -99,28 +91,26 @@ fn has_leg_above(old: &[u64]) -> bool
 
 // Makes the second book the layout in force of the old book's lists, unless it is refused. Nothing is written before all
 // checks are passed. A shelf that was filled from the old book still holds the old layout, and is not to be come back to.
-pub fn carry_over(old: &[u64], second: &mut [u64], tickets: Tickets) -> Outcome
-    ensures { (result, second.new) ≡ carry_of old.now second.old (table_of tickets) }
+pub fn carry_over(old: &[u64], second: &mut [u64], tickets: Tickets) -> Result<(), Refusal>
+    ensures { (numbered result, second.new) ≡ carry_of old.now second.old (table_of tickets) }
 {
-    if old.len() != Limits::WORDS {
-        let number = Refusal::BOOK as u16;
-        return Outcome::Refused(number);
-    }
-    if second.len() != Limits::WORDS {
-        let number = Refusal::BOOK as u16;
-        return Outcome::Refused(number);
-    }
+    let Some(old) = old.as_array::<{ Limits::WORDS }>() else {
+        return Err(Refusal::Book);
+    };
+    let Some(second) = second.as_mut_array::<{ Limits::WORDS }>() else {
+        return Err(Refusal::Book);
+    };
     let slots = tickets.slots;
     if any_stands(slots) {
-        return Outcome::Refused(Refusal::TICKET_STANDS);
+        return Err(Refusal::TicketStands);
     }
     if !is_sound_old(old) {
-        return Outcome::Refused(Refusal::UNSOUND);
+        return Err(Refusal::Unsound);
     }
     if has_leg_above(old) {
-        return Outcome::Refused(Refusal::LEG_ABOVE);
+        return Err(Refusal::LegAbove);
     }
     move_words(old, second);
     set_newers(old, second);
-    Outcome::Done
+    Ok(())
 }

@@ -1,4 +1,5 @@
 -- Each answer of a carry-over comes exactly when it is due: by the four tests, and by what the check of the old book says of its lists.
+use Rattle.std.specs.Prelude.{Ok, Err}
 use Prim.Native.Nat.{ℕ}
 use mathlib.Core.Path.{◌≡◌, refl, sym, ap, subst, ◌∙◌}
 use mathlib.Core.List.{[], ◌∷◌}
@@ -13,8 +14,7 @@ use Rattle.words.specs.Tests.{some_holds}
 use Rattle.words.specs.declared.LegLayout.TheVariants.{ThreeWords, FourWords}
 use Rattle.words.specs.Words.{Words, words_in_book}
 use Rattle.tickets.specs.Tickets.{Tickets}
-use Rattle.calls.specs.declared.Outcome.{Outcome}
-use Rattle.calls.specs.declared.Outcome.TheVariants.{Done, Refused}
+use Rattle.calls.specs.Outcomes.{Outcome}
 use Rattle.calls.specs.Call.{check, first_of, book_length_wrong}
 use Rattle.calls.specs.Outcomes.{outcome_of, number_of, ticket_stands}
 use Rattle.soundness.specs.Checking.{is_sound_in}
@@ -29,35 +29,35 @@ use Rattle.carrying.proofs.Carrying.{carries_the_lists}
 abbrev answered : (wrong stands unsound above : Bool) → Outcome
 answered wrong stands unsound above = outcome_of (first_of (check 1 wrong ∷ check 14 stands ∷ check 15 unsound ∷ check 16 above ∷ []))
 
-by_1 : (wrong stands unsound above : Bool) → answered wrong stands unsound above ≡ Refused 1 → wrong ≡ true
+by_1 : (wrong stands unsound above : Bool) → answered wrong stands unsound above ≡ Err 1 → wrong ≡ true
 by_1 true stands unsound above e = refl
 by_1 false true unsound above e = absurd (omega (arith, ap number_of e))
 by_1 false false true above e = absurd (omega (arith, ap number_of e))
 by_1 false false false true e = absurd (omega (arith, ap number_of e))
 by_1 false false false false e = absurd (omega (arith, ap number_of e))
 
-by_14 : (wrong stands unsound above : Bool) → answered wrong stands unsound above ≡ Refused 14 → (wrong ≡ false) × (stands ≡ true)
+by_14 : (wrong stands unsound above : Bool) → answered wrong stands unsound above ≡ Err 14 → (wrong ≡ false) × (stands ≡ true)
 by_14 true stands unsound above e = absurd (omega (arith, ap number_of e))
 by_14 false true unsound above e = (refl, refl)
 by_14 false false true above e = absurd (omega (arith, ap number_of e))
 by_14 false false false true e = absurd (omega (arith, ap number_of e))
 by_14 false false false false e = absurd (omega (arith, ap number_of e))
 
-by_15 : (wrong stands unsound above : Bool) → answered wrong stands unsound above ≡ Refused 15 → (wrong ≡ false) × (stands ≡ false) × (unsound ≡ true)
+by_15 : (wrong stands unsound above : Bool) → answered wrong stands unsound above ≡ Err 15 → (wrong ≡ false) × (stands ≡ false) × (unsound ≡ true)
 by_15 true stands unsound above e = absurd (omega (arith, ap number_of e))
 by_15 false true unsound above e = absurd (omega (arith, ap number_of e))
 by_15 false false true above e = (refl, refl, refl)
 by_15 false false false true e = absurd (omega (arith, ap number_of e))
 by_15 false false false false e = absurd (omega (arith, ap number_of e))
 
-by_16 : (wrong stands unsound above : Bool) → answered wrong stands unsound above ≡ Refused 16 → (wrong ≡ false) × (stands ≡ false) × (unsound ≡ false) × (above ≡ true)
+by_16 : (wrong stands unsound above : Bool) → answered wrong stands unsound above ≡ Err 16 → (wrong ≡ false) × (stands ≡ false) × (unsound ≡ false) × (above ≡ true)
 by_16 true stands unsound above e = absurd (omega (arith, ap number_of e))
 by_16 false true unsound above e = absurd (omega (arith, ap number_of e))
 by_16 false false true above e = absurd (omega (arith, ap number_of e))
 by_16 false false false true e = (refl, refl, refl, refl)
 by_16 false false false false e = absurd (omega (arith, ap number_of e))
 
-by_none : (wrong stands unsound above : Bool) → answered wrong stands unsound above ≡ Done → (wrong ≡ false) × (stands ≡ false) × (unsound ≡ false) × (above ≡ false)
+by_none : (wrong stands unsound above : Bool) → answered wrong stands unsound above ≡ Ok tt → (wrong ≡ false) × (stands ≡ false) × (unsound ≡ false) × (above ≡ false)
 by_none true stands unsound above e = absurd (omega (arith, ap number_of e))
 by_none false true unsound above e = absurd (omega (arith, ap number_of e))
 by_none false false true above e = absurd (omega (arith, ap number_of e))
@@ -70,11 +70,11 @@ module _ (old second : Words) where
   outcome_by none = refl
   outcome_by (some number) = refl
 
-  kept_by_lem : (refusal : Option ℕ) (number : ℕ) → (carried_by refusal old second).0 ≡ Refused number → (carried_by refusal old second).1 ≡ second
+  kept_by_lem : (refusal : Option ℕ) (number : ℕ) → (carried_by refusal old second).0 ≡ Err number → (carried_by refusal old second).1 ≡ second
   kept_by_lem none number e = absurd (let never : ◌≡◌ {A = ℕ} 0 1 = cc in omega arith)
   kept_by_lem (some other) number e = refl
 
-  written_by_lem : (refusal : Option ℕ) → (carried_by refusal old second).0 ≡ Done → (carried_by refusal old second).1 ≡ carried old
+  written_by_lem : (refusal : Option ℕ) → (carried_by refusal old second).0 ≡ Ok tt → (carried_by refusal old second).1 ≡ carried old
   written_by_lem none e = refl
   written_by_lem (some number) e = absurd (let never : ◌≡◌ {A = ℕ} 0 1 = cc in omega arith)
 
@@ -160,17 +160,17 @@ module _ (old second : Words) (tickets : Tickets) where
   answered_exactly : CarryAnswered old second tickets
   unfolding carry_of
   answered_exactly = record {
-    wrong_length = exactly (Refused 1) _ (λ e. wrong_either old second (by_1 wrong stands unsound above e)) (λ n i. answered (either_wrong old second n i) stands unsound above);
-    a_ticket_stands = exactly (Refused 14) _
+    wrong_length = exactly (Err 1) _ (λ e. wrong_either old second (by_1 wrong stands unsound above e)) (λ n i. answered (either_wrong old second n i) stands unsound above);
+    a_ticket_stands = exactly (Err 14) _
         (λ e. let tests = by_14 wrong stands unsound above e in (right_whole old second tests.0, tests.1))
         (λ (whole, standing) i. answered (whole_right old second whole i) (standing i) unsound above);
-    unsound = exactly (Refused 15) _
+    unsound = exactly (Err 15) _
         (λ e. let tests = by_15 wrong stands unsound above e in ((right_whole old second tests.0, tests.1), unsound_none old tests.2))
         (λ ((whole, empty), never) i. answered (whole_right old second whole i) (empty i) (none_unsound old never i) above);
-    a_leg_above = exactly (Refused 16) _
+    a_leg_above = exactly (Err 16) _
         (λ e. let tests = by_16 wrong stands unsound above e in ((right_whole old second tests.0, tests.1), book_of_lem old true tests.2 tests.3))
         (λ ((whole, empty), book) i. answered (whole_right old second whole i) (empty i) ((of_book old true book).0 i) ((of_book old true book).1 i));
-    done = exactly Done _
+    done = exactly (Ok tt) _
         (λ e. let tests = by_none wrong stands unsound above e in ((right_whole old second tests.0, tests.1), book_of_lem old false tests.2 tests.3))
         (λ ((whole, empty), book) i. answered (whole_right old second whole i) (empty i) ((of_book old false book).0 i) ((of_book old false book).1 i));
     kept = kept_by_lem old second (carry_refusal old second tickets);
@@ -197,25 +197,25 @@ done_carries_the_lists old second tickets done =
 
 -- What the call comes to, by its tests as the code makes them.
 module _ (old second : Words) (tickets : Tickets) where
-  pub refused_1 : either_length_wrong old second ≡ true → (Refused 1, second) ≡ carry_of old second tickets
+  pub refused_1 : either_length_wrong old second ≡ true → (Err 1, second) ≡ carry_of old second tickets
   unfolding carry_of carry_refusal carry_checks
   refused_1 wrong = sym (rw wrong)
 
   module _ (right : either_length_wrong old second ≡ false) where
-    pub refused_14 : ticket_stands tickets ≡ true → (Refused 14, second) ≡ carry_of old second tickets
+    pub refused_14 : ticket_stands tickets ≡ true → (Err 14, second) ≡ carry_of old second tickets
     unfolding carry_of carry_refusal carry_checks
     refused_14 stands = sym (rw (right, stands))
 
     module _ (empty : ticket_stands tickets ≡ false) where
-      pub refused_15 : is_sound_in ThreeWords old ≡ false → (Refused 15, second) ≡ carry_of old second tickets
+      pub refused_15 : is_sound_in ThreeWords old ≡ false → (Err 15, second) ≡ carry_of old second tickets
       unfolding carry_of carry_refusal carry_checks
       refused_15 unsound = sym (rw (right, empty, unsound))
 
       module _ (sound : is_sound_in ThreeWords old ≡ true) where
-        pub refused_16 : leg_above (plain_in ThreeWords old) ≡ true → (Refused 16, second) ≡ carry_of old second tickets
+        pub refused_16 : leg_above (plain_in ThreeWords old) ≡ true → (Err 16, second) ≡ carry_of old second tickets
         unfolding carry_of carry_refusal carry_checks
         refused_16 above = sym (rw (right, empty, sound, above))
 
-        pub done_by_lem : leg_above (plain_in ThreeWords old) ≡ false → (Done, carried old) ≡ carry_of old second tickets
+        pub done_by_lem : leg_above (plain_in ThreeWords old) ≡ false → (Ok tt, carried old) ≡ carry_of old second tickets
         unfolding carry_of carry_refusal carry_checks
         done_by_lem low = sym (rw (right, empty, sound, low))

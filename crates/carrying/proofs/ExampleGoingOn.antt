@@ -1,4 +1,5 @@
 -- A carried book goes on, computed: leg 1 is carried over, a run begins there under ranks of the cave's own, and a correction of that leg is granted.
+use Rattle.std.specs.Prelude.{Ok}
 use mathlib.Core.Path.{◌≡◌, refl, subst, ◌∙◌}
 use mathlib.Core.Bool.{true, false}
 use mathlib.Core.List.{List, [], ◌∷◌, map}
@@ -16,7 +17,6 @@ use Rattle.edits.specs.declared.Edit.TheVariants.{Correct}
 use Rattle.frames.specs.declared.Answer.TheVariants as Answer
 use Rattle.frames.specs.Request.{Open}
 use Rattle.plain.specs.Plain.{list_of, all_in_range, legs_in_book}
-use Rattle.calls.specs.declared.Outcome.TheVariants.{Done}
 use Rattle.calls.specs.Run.{Call, Shared, Heard, answer_heard, run_from}
 use Rattle.calls.specs.Order.{granted, decided, first_notes, order_from}
 use Rattle.calls.specs.Linearizable.{start_of, plain_from}
@@ -44,7 +44,7 @@ leg_low : leg_above (alone 1) ≡ false
 unfolding everything
 leg_low = refl
 
-carried_over : (carry_of old_book second fresh_tickets).0 ≡ Done
+carried_over : (carry_of old_book second fresh_tickets).0 ≡ Ok tt
 carried_over =
     (carry_answers old_book second fresh_tickets).done.1
     (((length_laid_out ThreeWords (alone 1), refl), none_stands), (alone 1, alone_sound 1 leg_fits, laid_out_words ThreeWords (alone 1), leg_low))

@@ -1,4 +1,5 @@
 -- Carry-overs computed: a small old book, the refusals in their order, and books of leg 1,008 and of leg 1,009.
+use Rattle.std.specs.Prelude.{Ok, Err}
 use Prim.Native.Nat.{ℕ, zero, suc, ◌+◌, ◌≤◌, ◌<◌}
 use mathlib.Core.Path.{◌≡◌, refl, ap, ◌∙◌}
 use mathlib.Core.List.{[], ◌∷◌, ◌++◌, map}
@@ -18,7 +19,6 @@ use Rattle.tickets.specs.Tickets.{Tickets, fresh_tickets, with_ticket, stands_be
 use Rattle.edits.specs.Views.{opened_view}
 use Rattle.edits.specs.Opened.{insert_by, ordered_by}
 use Rattle.plain.specs.Plain.{Plain, find_below, list_of, all_in_range, times_below, word_in, word_of, SoundIn}
-use Rattle.calls.specs.declared.Outcome.TheVariants.{Done, Refused}
 use Rattle.calls.specs.Outcomes.{ticket_stands}
 use Rattle.soundness.specs.Checking.{may_follow, walk, walk_passage, walk_below, used_or_zero, rest_zero, is_sound_in}
 use Rattle.soundness.specs.InWords.{lists_from, plain_in}
@@ -125,7 +125,7 @@ last_leg_low : leg_above (alone 1008) ≡ false
 unfolding everything
 last_leg_low = refl
 
-last_leg_done : (carry_of (laid_out ThreeWords (alone 1008)) second fresh_tickets).0 ≡ Done
+last_leg_done : (carry_of (laid_out ThreeWords (alone 1008)) second fresh_tickets).0 ≡ Ok tt
 last_leg_done =
     (carry_answers (laid_out ThreeWords (alone 1008)) second fresh_tickets).done.1
     (((length_laid_out ThreeWords (alone 1008), refl), none_stands), (alone 1008, alone_sound 1008 last_leg_fits, laid_out_words ThreeWords (alone 1008), last_leg_low))
@@ -144,7 +144,7 @@ next_leg_high : leg_above (alone 1009) ≡ true
 unfolding everything
 next_leg_high = refl
 
-next_leg_refused : (carry_of (laid_out ThreeWords (alone 1009)) second fresh_tickets).0 ≡ Refused 16
+next_leg_refused : (carry_of (laid_out ThreeWords (alone 1009)) second fresh_tickets).0 ≡ Err 16
 next_leg_refused =
     (carry_answers (laid_out ThreeWords (alone 1009)) second fresh_tickets).a_leg_above.1
     (((length_laid_out ThreeWords (alone 1009), refl), none_stands), (alone 1009, alone_sound 1009 next_leg_fits, laid_out_words ThreeWords (alone 1009), next_leg_high))

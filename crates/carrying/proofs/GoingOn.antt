@@ -1,11 +1,11 @@
 -- A carried book is a start: its words are those of the plain book of the old words, which keeps the rules of four words a leg.
+use Rattle.std.specs.Prelude.{Ok}
 use mathlib.Core.Path.{◌≡◌, refl, sym, ap, subst, ◌∙◌}
 use lib.ListN.{length}
 use Rattle.words.specs.declared.LegLayout.TheVariants.{ThreeWords, FourWords}
 use Rattle.words.specs.Words.{Words, words_in_book}
 use Rattle.tickets.specs.Tickets.{Tickets}
 use Rattle.plain.specs.Plain.{Sound}
-use Rattle.calls.specs.declared.Outcome.TheVariants.{Done}
 use Rattle.soundness.specs.InWords.{plain_in}
 use Rattle.soundness.specs.Soundness.{WordsOf}
 use Rattle.soundness.proofs.Telling.{words_tell_lists}
@@ -14,7 +14,7 @@ use Rattle.carrying.proofs.Carrying.{carries_the_lists}
 use Rattle.carrying.proofs.Answers.{carry_answers}
 
 -- What is known of the second book where the carry-over is done.
-done_lists : (old second : Words) (tickets : Tickets) → (carry_of old second tickets).0 ≡ Done
+done_lists : (old second : Words) (tickets : Tickets) → (carry_of old second tickets).0 ≡ Ok tt
     → Sound (plain_in ThreeWords old) × (length (carry_of old second tickets).1 ≡ words_in_book) × WordsOf FourWords (carry_of old second tickets).1 (plain_in ThreeWords old)
 done_lists old second tickets done =
     let answered = carry_answers old second tickets in

@@ -1,5 +1,5 @@
 -- Request 10: "An old book is carried over into a second lent one when no ticket stands".
-use Rattle.std.specs.Prelude.{ℕ, zero, suc, ◌+◌, ◌≡◌, List, [], ◌∷◌, Bool, true, false, cond, not, ◌↔◌, ◌⊎◌, ◌≢◌, ltb, length}
+use Rattle.std.specs.Prelude.{ℕ, zero, suc, ◌+◌, ◌≡◌, List, [], ◌∷◌, Bool, true, false, cond, not, ◌↔◌, ◌⊎◌, ◌≢◌, ltb, length, Ok, Err}
 use Rattle.std.proofs.Math.Option.{Option, none, some}
 use Rattle.words.specs.Tests.{some_holds}
 use Rattle.words.specs.declared.LegLayout.{LegLayout}
@@ -8,8 +8,7 @@ use Rattle.words.specs.Words.{Words, words_in_book, last_leg}
 use Rattle.tickets.specs.Tickets.{Tickets}
 use Rattle.legs.specs.Positions.{Ranks, Accepted}
 use Rattle.plain.specs.Plain.{Plain, NumberedLeg, word_in, SoundIn, Sound}
-use Rattle.calls.specs.declared.Outcome.{Outcome}
-use Rattle.calls.specs.declared.Outcome.TheVariants.{Done, Refused}
+use Rattle.calls.specs.Outcomes.{Outcome}
 use Rattle.calls.specs.Call.{Check, check, first_of, book_length_wrong}
 use Rattle.calls.specs.Outcomes.{outcome_of, ticket_stands}
 use Rattle.calls.specs.Shelves.{none_filled}
@@ -91,13 +90,13 @@ OfBookWith above old = (plain : Plain) × SoundIn ThreeWords plain × WordsOf Th
 
 -- What a carry-over answers, each answer exactly when it is due; a refused one leaves the second book.
 pub record CarryAnswered (old second : Words) (tickets : Tickets) : Type 0 where
-  pub wrong_length : ((carry_of old second tickets).0 ≡ Refused 1) ↔ ((length old ≢ words_in_book) ⊎ (length second ≢ words_in_book))
-  pub a_ticket_stands : ((carry_of old second tickets).0 ≡ Refused 14) ↔ (BothWhole old second × (ticket_stands tickets ≡ true))
-  pub unsound : ((carry_of old second tickets).0 ≡ Refused 15) ↔ (Ready old second tickets × ¬ OfSomePlainBook ThreeWords old)
-  pub a_leg_above : ((carry_of old second tickets).0 ≡ Refused 16) ↔ (Ready old second tickets × OfBookWith true old)
-  pub done : ((carry_of old second tickets).0 ≡ Done) ↔ (Ready old second tickets × OfBookWith false old)
-  pub kept : (refusal : ℕ) → (carry_of old second tickets).0 ≡ Refused refusal → (carry_of old second tickets).1 ≡ second
-  pub written : (carry_of old second tickets).0 ≡ Done → (carry_of old second tickets).1 ≡ carried old
+  pub wrong_length : ((carry_of old second tickets).0 ≡ Err 1) ↔ ((length old ≢ words_in_book) ⊎ (length second ≢ words_in_book))
+  pub a_ticket_stands : ((carry_of old second tickets).0 ≡ Err 14) ↔ (BothWhole old second × (ticket_stands tickets ≡ true))
+  pub unsound : ((carry_of old second tickets).0 ≡ Err 15) ↔ (Ready old second tickets × ¬ OfSomePlainBook ThreeWords old)
+  pub a_leg_above : ((carry_of old second tickets).0 ≡ Err 16) ↔ (Ready old second tickets × OfBookWith true old)
+  pub done : ((carry_of old second tickets).0 ≡ Ok tt) ↔ (Ready old second tickets × OfBookWith false old)
+  pub kept : (refusal : ℕ) → (carry_of old second tickets).0 ≡ Err refusal → (carry_of old second tickets).1 ≡ second
+  pub written : (carry_of old second tickets).0 ≡ Ok tt → (carry_of old second tickets).1 ≡ carried old
 
 -- Statement: so it is of any words and any tickets.
 abbrev pub CarryAnswers : Type 0
@@ -114,7 +113,7 @@ pub record ListsCarried (old after : Words) : Type 0 where
 
 -- Statement: "after it the second is the four-word layout of the same lists".
 abbrev pub DoneCarriesTheLists : Type 0
-DoneCarriesTheLists = (old second : Words) (tickets : Tickets) → (carry_of old second tickets).0 ≡ Done → ListsCarried old (carry_of old second tickets).1
+DoneCarriesTheLists = (old second : Words) (tickets : Tickets) → (carry_of old second tickets).0 ≡ Ok tt → ListsCarried old (carry_of old second tickets).1
 
 -- What the calls share that go on from a book, with no shelf filled: one that was filled before keeps the old layout.
 abbrev pub going_on : (book : Words) (tickets : Tickets) (ranks : Ranks) (store : Words) → Shared
@@ -124,7 +123,7 @@ going_on book tickets ranks store = record { book = book; tickets = tickets; ran
 -- accepted ranks and any store. So demand 3 holds from there (`Demand3From`).
 abbrev pub CarriedBooksGoOn : Type 0
 CarriedBooksGoOn =
-    (old second : Words) (tickets : Tickets) → (carry_of old second tickets).0 ≡ Done
+    (old second : Words) (tickets : Tickets) → (carry_of old second tickets).0 ≡ Ok tt
     → (table : Tickets) → TableFits table → ticket_stands table ≡ false
     → (ranks : Ranks) → Accepted ranks
     → (store : Words) → Begins (going_on (carry_of old second tickets).1 table ranks store) (plain_in ThreeWords old)

@@ -9,7 +9,7 @@ ghost use Rattle.replies.specs.Leaving.{RoomAt, Answered, StepsFrom, LeftBy};
 ghost use Rattle.claiming.specs.Missing.{differed_slot, differed_answer, MissesIn, MissLeft};
 
 use replies::Left;
-use tickets::{Ticket, Tickets};
+use tickets::{StepAnswer, Ticket, Tickets};
 
 // Found stale: at once where nothing is claimed, else it gives back first.
 fn differed(ticket: Ticket, word: u16, out: &mut [u8], at: usize) -> Left
@@ -19,17 +19,10 @@ fn differed(ticket: Ticket, word: u16, out: &mut [u8], at: usize) -> Left
 {
     let turned = ticket.turn();
     if ticket.claimed == 0 {
-        let filled = replies::put_stale(out, at, word, turned.tries);
-        return Left {
-            ticket: Ticket::none(),
-            filled: filled,
-        };
+        let answer = StepAnswer::Stale(word, turned.tries);
+        return replies::leave(Ticket::none(), answer, out, at);
     }
-    let filled = replies::put_found(out, at, word);
-    Left {
-        ticket: turned,
-        filled: filled,
-    }
+    replies::leave(turned, StepAnswer::Found(word), out, at)
 }
 
 // A claim of an edit that found something else than quoted: it waits, or is found stale.
@@ -64,17 +57,11 @@ pub fn claim(
     ensures { LeftBy (step_of book.old (gathered targets.now slot ticket) slot) targets.now slot result.ticket book.new out.old at result.filled out.new }
 {
     let target = replies::target_at(targets, slot, ticket.claimed);
-    let word = target.word as usize;
     let mark = words::mark(slot as u16);
-    let report = words::conditional_swap(book, word, target.quoted, mark);
-    let found = report.found;
+    let found = words::conditional_swap(book, target.word as usize, target.quoted, mark).found;
     if found == target.quoted {
         let after = ticket.claim();
-        let filled = replies::put_claimed(out, at, after.claimed);
-        return Left {
-            ticket: after,
-            filled: filled,
-        };
+        return replies::leave(after, StepAnswer::Claimed(after.claimed), out, at);
     }
     missed(targets, ticket, slot, found, out, at)
 }

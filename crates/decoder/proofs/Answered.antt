@@ -8,6 +8,7 @@ use native.Mathlib.Decide.{ℕ_discrete}
 use borrow.Author.Tests.{leb-true, le-leb, eq-eqb, ne_eqb}
 use lib.Dec.{eqb, leb}
 use lib.IntN.{ℤ}
+use Rattle.std.specs.Prelude.{Option, Some, None}
 use Rattle.words.specs.Tests.{within}
 use Rattle.words.proofs.Tests.{split, join, is_false, failed_test}
 use Rattle.legs.specs.declared.Measure.{Measure}
@@ -16,13 +17,8 @@ use Rattle.legs.specs.Minutes.{Minutes, minutes_of, hundredths_of, signed_by, co
 use Rattle.legs.proofs.Ranges.{measure_fits_lem}
 use Rattle.legs.proofs.Minutes.{steep_fits, rounded_in_range}
 use Rattle.edits.specs.Ranges.{leg_number_in_range, leg_or_none_in_range, count_before_strike_in_range}
-use Rattle.frames.specs.declared.Field.TheVariants as Field
-use Rattle.frames.specs.declared.LongField.TheVariants as LongField
-use Rattle.frames.specs.declared.SignedField.TheVariants as SignedField
-use Rattle.frames.specs.declared.MeasureField.TheVariants as MeasureField
 use Rattle.frames.specs.declared.Taken.{Taken}
-use Rattle.frames.specs.declared.TakenField.TheVariants as TakenField
-use Rattle.frames.specs.Fields.{field_of, long_field_of, clino_field_of, measure_field_of, compass_minutes_field_of, clino_minutes_field_of, measure_field_if, minutes_field_of, taken_in_range, taken_field_of}
+use Rattle.frames.specs.Fields.{field_of, field_of, clino_field_of, measure_field_of, compass_minutes_field_of, clino_minutes_field_of, measure_field_if, minutes_field_of, taken_in_range, taken_field_of}
 use Rattle.frames.proofs.Ranges.{within_in}
 
 -- A choice by a test that is known.
@@ -35,75 +31,19 @@ not_chosen true x y h = absurd (false≢true (sym h))
 not_chosen false x y h = refl
 
 -- A field out of range failed its test; one in range passed it, and its value is the field's.
-pub field_out : (test : Bool) (value : ℕ) → field_of test value ≡ Field.OutOfRange → test ≡ false
+pub field_out : {A : Type 0} (test : Bool) (value : A) → field_of test value ≡ None → test ≡ false
 field_out true value e = cc
 field_out false value e = refl
 
-pub field_in : (test : Bool) (value given : ℕ) → field_of test value ≡ Field.InRange given → (test ≡ true) × (value ≡ given)
+pub field_in : {A : Type 0} (test : Bool) (value given : A) → field_of test value ≡ Some given → (test ≡ true) × (value ≡ given)
 field_in true value given e = (refl, cc)
 field_in false value given e = (cc, cc)
 
-pub long_field_out : (test : Bool) (value : ℕ) → long_field_of test value ≡ LongField.OutOfRange → test ≡ false
-long_field_out true value e = cc
-long_field_out false value e = refl
-
-pub long_field_in : (test : Bool) (value given : ℕ) → long_field_of test value ≡ LongField.InRange given → (test ≡ true) × (value ≡ given)
-long_field_in true value given e = (refl, cc)
-long_field_in false value given e = (cc, cc)
-
 -- A field up to a bound, in range.
-pub bounded_in : (value most given : ℕ) → field_of (leb value most) value ≡ Field.InRange given → (leb value most ≡ true) × (value ≡ given) × (given ≤ most)
+pub bounded_in : (value most given : ℕ) → field_of (leb value most) value ≡ Some given → (leb value most ≡ true) × (value ≡ given) × (given ≤ most)
 bounded_in value most given e =
     let (fits, is) = field_in (leb value most) value given e in
     (fits, is, subst (λ (n : ℕ). n ≤ most) is (leb-true value most fits))
-
-clino_test_out : (test : Bool) (clino : ℤ) → cond test (SignedField.InRange clino) SignedField.OutOfRange ≡ SignedField.OutOfRange → test ≡ false
-clino_test_out true clino e = cc
-clino_test_out false clino e = refl
-
-clino_test_in : (test : Bool) (clino given : ℤ) → cond test (SignedField.InRange clino) SignedField.OutOfRange ≡ SignedField.InRange given → (test ≡ true) × (clino ≡ given)
-clino_test_in true clino given e = (refl, cc)
-clino_test_in false clino given e = (cc, cc)
-
-pub signed_out : (test : Bool) (clino : ℤ) → cond test (SignedField.InRange clino) SignedField.OutOfRange ≡ SignedField.OutOfRange → test ≡ false
-signed_out test clino e = clino_test_out test clino e
-
-pub signed_in : (test : Bool) (clino given : ℤ) → cond test (SignedField.InRange clino) SignedField.OutOfRange ≡ SignedField.InRange given → (test ≡ true) × (clino ≡ given)
-signed_in test clino given e = clino_test_in test clino given e
-
-pub clino_field_out : (clino : ℤ) → clino_field_of clino ≡ SignedField.OutOfRange → clino_in_range clino ≡ false
-clino_field_out clino e = clino_test_out (clino_in_range clino) clino e
-
-pub clino_field_in : (clino given : ℤ) → clino_field_of clino ≡ SignedField.InRange given → (clino_in_range clino ≡ true) × (clino ≡ given)
-clino_field_in clino given e = clino_test_in (clino_in_range clino) clino given e
-
-measure_test_out : (test : Bool) (measure : Measure) → cond test (MeasureField.InRange measure) MeasureField.OutOfRange ≡ MeasureField.OutOfRange → test ≡ false
-measure_test_out true measure e = cc
-measure_test_out false measure e = refl
-
-measure_test_in : (test : Bool) (measure given : Measure) → cond test (MeasureField.InRange measure) MeasureField.OutOfRange ≡ MeasureField.InRange given → (test ≡ true) × (measure ≡ given)
-measure_test_in true measure given e = (refl, cc)
-measure_test_in false measure given e = (cc, cc)
-
-pub measure_field_out : (measure : Measure) → measure_field_of measure ≡ MeasureField.OutOfRange → measure_in_range measure ≡ false
-measure_field_out measure e = measure_test_out (measure_in_range measure) measure e
-
-pub measure_field_in : (measure given : Measure) → measure_field_of measure ≡ MeasureField.InRange given → (measure_in_range measure ≡ true) × (measure ≡ given)
-measure_field_in measure given e = measure_test_in (measure_in_range measure) measure given e
-
-taken_test_out : (test : Bool) (taken : Taken) → cond test (TakenField.InRange taken) TakenField.OutOfRange ≡ TakenField.OutOfRange → test ≡ false
-taken_test_out true taken e = cc
-taken_test_out false taken e = refl
-
-taken_test_in : (test : Bool) (taken given : Taken) → cond test (TakenField.InRange taken) TakenField.OutOfRange ≡ TakenField.InRange given → (test ≡ true) × (taken ≡ given)
-taken_test_in true taken given e = (refl, cc)
-taken_test_in false taken given e = (cc, cc)
-
-pub taken_field_out : (taken : Taken) → taken_field_of taken ≡ TakenField.OutOfRange → taken_in_range taken ≡ false
-taken_field_out taken e = taken_test_out (taken_in_range taken) taken e
-
-pub taken_field_in : (taken given : Taken) → taken_field_of taken ≡ TakenField.InRange given → (taken_in_range taken ≡ true) × (taken ≡ given)
-taken_field_in taken given e = taken_test_in (taken_in_range taken) taken given e
 
 -- M is out of range where one of its fields is, and in range where all three are.
 pub no_measure_distance : (measure : Measure) → within 1 longest_distance measure.distance ≡ false → measure_in_range measure ≡ false
@@ -123,17 +63,17 @@ all_measure measure distance compass clino =
     join (within 1 longest_distance measure.distance ∷ leb measure.compass last_compass ∷ clino_in_range measure.clino ∷ []) (distance, (compass, (clino, tt)))
 
 -- An angle in minutes is out of range where one of its fields is, and in range where all are: a compass,
-pub compass_degrees_out : (degrees minutes : ℕ) → leb degrees 359 ≡ false → Field.OutOfRange ≡ compass_minutes_field_of degrees minutes
-compass_degrees_out degrees minutes e = not_chosen (compass_angle_in_range degrees minutes) (Field.InRange (hundredths_of degrees minutes)) Field.OutOfRange (failed_test (leb degrees 359) (leb minutes 59 ∷ []) e)
+pub compass_degrees_out : (degrees minutes : ℕ) → leb degrees 359 ≡ false → None ≡ compass_minutes_field_of degrees minutes
+compass_degrees_out degrees minutes e = not_chosen (compass_angle_in_range degrees minutes) (Some (hundredths_of degrees minutes)) None (failed_test (leb degrees 359) (leb minutes 59 ∷ []) e)
 
-pub compass_minutes_out : (degrees minutes : ℕ) → leb minutes 59 ≡ false → Field.OutOfRange ≡ compass_minutes_field_of degrees minutes
+pub compass_minutes_out : (degrees minutes : ℕ) → leb minutes 59 ≡ false → None ≡ compass_minutes_field_of degrees minutes
 compass_minutes_out degrees minutes e =
-    not_chosen (compass_angle_in_range degrees minutes) (Field.InRange (hundredths_of degrees minutes)) Field.OutOfRange
+    not_chosen (compass_angle_in_range degrees minutes) (Some (hundredths_of degrees minutes)) None
     (is_false _ (λ h. false≢true (sym e ∙ (split (leb degrees 359 ∷ leb minutes 59 ∷ []) h).1.0)))
 
-pub compass_angle_in : (degrees minutes : ℕ) → leb degrees 359 ≡ true → leb minutes 59 ≡ true → Field.InRange (hundredths_of degrees minutes) ≡ compass_minutes_field_of degrees minutes
+pub compass_angle_in : (degrees minutes : ℕ) → leb degrees 359 ≡ true → leb minutes 59 ≡ true → Some (hundredths_of degrees minutes) ≡ compass_minutes_field_of degrees minutes
 compass_angle_in degrees minutes d m =
-    chosen (compass_angle_in_range degrees minutes) (Field.InRange (hundredths_of degrees minutes)) Field.OutOfRange (join (leb degrees 359 ∷ leb minutes 59 ∷ []) (d, (m, tt)))
+    chosen (compass_angle_in_range degrees minutes) (Some (hundredths_of degrees minutes)) None (join (leb degrees 359 ∷ leb minutes 59 ∷ []) (d, (m, tt)))
 
 -- and a clino.
 pub record ClinoAngleFits (sign degrees minutes : ℕ) : Type 0 where
@@ -145,9 +85,9 @@ pub record ClinoAngleFits (sign degrees minutes : ℕ) : Type 0 where
 abbrev clino_tests : ℕ → ℕ → ℕ → List Bool
 clino_tests sign degrees minutes = leb sign 1 ∷ leb degrees 90 ∷ leb minutes 59 ∷ leb (minutes_of degrees minutes) (minutes_of 90 0) ∷ []
 
-pub clino_angle_out : (sign degrees minutes : ℕ) → (ClinoAngleFits sign degrees minutes → ⊥) → SignedField.OutOfRange ≡ clino_minutes_field_of sign degrees minutes
+pub clino_angle_out : (sign degrees minutes : ℕ) → (ClinoAngleFits sign degrees minutes → ⊥) → None ≡ clino_minutes_field_of sign degrees minutes
 clino_angle_out sign degrees minutes out =
-    not_chosen (clino_angle_in_range sign degrees minutes) (SignedField.InRange (signed_by sign (hundredths_of degrees minutes))) SignedField.OutOfRange
+    not_chosen (clino_angle_in_range sign degrees minutes) (Some (signed_by sign (hundredths_of degrees minutes))) None
     (is_false _ (λ h.
     let (s, (d, (m, (t, u)))) = split (clino_tests sign degrees minutes) h in
     out (record { sign_fits = s; degrees_fit = d; minutes_fit_lem = m; steepness = t })))
@@ -176,9 +116,9 @@ minute_out sign degrees minutes d last same is over fits =
       | no other ↦ false≢true (sym (rw (ne_eqb degrees 90 other) at out) ∙ fits.minutes_fit_lem)
     ]
 
-clino_angle_in : (sign degrees minutes : ℕ) → ClinoAngleFits sign degrees minutes → SignedField.InRange (signed_by sign (hundredths_of degrees minutes)) ≡ clino_minutes_field_of sign degrees minutes
+clino_angle_in : (sign degrees minutes : ℕ) → ClinoAngleFits sign degrees minutes → Some (signed_by sign (hundredths_of degrees minutes)) ≡ clino_minutes_field_of sign degrees minutes
 clino_angle_in sign degrees minutes fits =
-    chosen (clino_angle_in_range sign degrees minutes) (SignedField.InRange (signed_by sign (hundredths_of degrees minutes))) SignedField.OutOfRange
+    chosen (clino_angle_in_range sign degrees minutes) (Some (signed_by sign (hundredths_of degrees minutes))) None
     (join (clino_tests sign degrees minutes) (fits.sign_fits, (fits.degrees_fit, (fits.minutes_fit_lem, (fits.steepness, tt)))))
 
 -- The fields of a clino, and what they were read as.
@@ -189,10 +129,10 @@ pub record ClinoRead (sign degrees minutes s d m : ℕ) : Type 0 where
   pub minutes_is : minutes ≡ m
 
 pub clino_read : (sign degrees minutes s d m last : ℕ)
-    → field_of (leb sign 1) sign ≡ Field.InRange s
-    → field_of (leb degrees 90) degrees ≡ Field.InRange d
+    → field_of (leb sign 1) sign ≡ Some s
+    → field_of (leb degrees 90) degrees ≡ Some d
     → last ≡ last_minute d
-    → field_of (leb minutes last) minutes ≡ Field.InRange m
+    → field_of (leb minutes last) minutes ≡ Some m
     → ClinoRead sign degrees minutes s d m
 clino_read sign degrees minutes s d m last e1 e2 is e3 =
     let (sign_fits, sign_is) = field_in (leb sign 1) sign s e1 in
@@ -218,17 +158,17 @@ module _ {sign degrees minutes s d m : ℕ} (read : ClinoRead sign degrees minut
       let steep = leb-true (minutes_of degrees minutes) (minutes_of 90 0) read.fits.steepness in
       steep_fits d m (omega (arith, steep, read.degrees_is, read.minutes_is))
 
-  pub clino_read_in : SignedField.InRange (signed_by s (hundredths_of d m)) ≡ clino_minutes_field_of sign degrees minutes
+  pub clino_read_in : Some (signed_by s (hundredths_of d m)) ≡ clino_minutes_field_of sign degrees minutes
   clino_read_in =
-      (λ i. SignedField.InRange (signed_by (sym read.sign_is i) (hundredths_of (sym read.degrees_is i) (sym read.minutes_is i))))
+      (λ i. Some (signed_by (sym read.sign_is i) (hundredths_of (sym read.degrees_is i) (sym read.minutes_is i))))
       ∙ clino_angle_in sign degrees minutes read.fits
 
 -- M in minutes is out of range where its distance or an angle is, and in range where all are.
-pub minutes_out : (m : Minutes) → (angles_in_range m ≡ true → measure_in_range (rounded m) ≡ false) → MeasureField.OutOfRange ≡ minutes_field_of m
+pub minutes_out : (m : Minutes) → (angles_in_range m ≡ true → measure_in_range (rounded m) ≡ false) → None ≡ minutes_field_of m
 minutes_out m out = go (angles_in_range m) out
   where
-    go : (angles : Bool) → (angles ≡ true → measure_in_range (rounded m) ≡ false) → MeasureField.OutOfRange ≡ measure_field_if angles (rounded m)
-    go true out = not_chosen (measure_in_range (rounded m)) (MeasureField.InRange (rounded m)) MeasureField.OutOfRange (out refl)
+    go : (angles : Bool) → (angles ≡ true → measure_in_range (rounded m) ≡ false) → None ≡ measure_field_if angles (rounded m)
+    go true out = not_chosen (measure_in_range (rounded m)) (Some (rounded m)) None (out refl)
     go false out = refl
 
 pub no_compass_angle : (m : Minutes) → compass_angle_in_range m.compass_degrees m.compass_minutes ≡ false → angles_in_range m ≡ true → measure_in_range (rounded m) ≡ false
@@ -240,22 +180,22 @@ unfolding angles_in_range
 no_clino_angle m e h = absurd (false≢true (sym e ∙ (split (compass_angle_in_range m.compass_degrees m.compass_minutes ∷ clino_angle_in_range m.sign m.clino_degrees m.clino_minutes ∷ []) h).1.0))
 
 pub minutes_in : (m : Minutes) → within 1 longest_distance m.distance ≡ true → compass_angle_in_range m.compass_degrees m.compass_minutes ≡ true → clino_angle_in_range m.sign m.clino_degrees m.clino_minutes ≡ true
-    → (MeasureField.InRange (rounded m) ≡ minutes_field_of m) × (clino_in_range (rounded m).clino ≡ true)
+    → (Some (rounded m) ≡ minutes_field_of m) × (clino_in_range (rounded m).clino ≡ true)
 unfolding angles_in_range
 minutes_in m distance compass clino =
     let angles = join (compass_angle_in_range m.compass_degrees m.compass_minutes ∷ clino_angle_in_range m.sign m.clino_degrees m.clino_minutes ∷ []) (compass, (clino, tt)) in
     let fits = rounded_in_range m angles distance in (
-      chosen (measure_in_range (rounded m)) (MeasureField.InRange (rounded m)) MeasureField.OutOfRange fits
-          ∙ chosen (angles_in_range m) (measure_field_of (rounded m)) MeasureField.OutOfRange angles,
+      chosen (measure_in_range (rounded m)) (Some (rounded m)) None fits
+          ∙ chosen (angles_in_range m) (measure_field_of (rounded m)) None angles,
       (measure_fits_lem (rounded m) fits).clino_fits,
     )
 
 -- M, in minutes or in hundredths.
-pub measure_if_out : (angles : Bool) (measure : Measure) → measure_field_if angles measure ≡ MeasureField.OutOfRange → angles ≡ true → measure_in_range measure ≡ false
-measure_if_out true measure e h = measure_field_out measure e
+pub measure_if_out : (angles : Bool) (measure : Measure) → measure_field_if angles measure ≡ None → angles ≡ true → measure_in_range measure ≡ false
+measure_if_out true measure e h = field_out _ measure e
 measure_if_out false measure e h = absurd (false≢true h)
 
-pub measure_if_in : (angles : Bool) (measure given : Measure) → measure_field_if angles measure ≡ MeasureField.InRange given → (angles ≡ true) × (measure_field_of measure ≡ MeasureField.InRange given)
+pub measure_if_in : (angles : Bool) (measure given : Measure) → measure_field_if angles measure ≡ Some given → (angles ≡ true) × (measure_field_of measure ≡ Some given)
 measure_if_in true measure given e = (refl, e)
 measure_if_in false measure given e = (cc, cc)
 

@@ -1,23 +1,21 @@
 -- What the fields of a view are read as: the words that it names, one after another, the tests of them, and the answer.
 use mathlib.Core.Path.{◌≡◌, sym, ap, ◌∙◌}
-use mathlib.Core.Bool.{Bool, true, false, cond}
+use mathlib.Core.Bool.{true, false}
 use mathlib.Core.List.{List, [], ◌∷◌, ◌++◌, append_assoc}
-use Prim.Native.Nat.{ℕ, zero, suc, ◌+◌, ◌*◌, ◌-◌, ◌/◌, ◌≤◌, ◌<◌}
+use Prim.Native.Nat.{ℕ, zero, suc, ◌+◌, ◌*◌, ◌-◌, ◌/◌, ◌<◌}
 use native.Mathlib.Numerals.{add-one}
 use native.Mathlib.Omega.{arith}
-use lib.Dec.{eqb, ltb}
-use lib.ListN.{length, get_or, set, take, drop, replicate, length-append}
+use lib.Dec.{eqb}
+use lib.ListN.{length, set, take, replicate, length-append}
 use lib.Seq.{take_at, set_at}
 use borrow.Author.Tests.{eq-eqb, ne_eqb}
+use Rattle.std.specs.Prelude.{Ok, Err}
 use Rattle.words.specs.Tests.{all_hold, distinct}
-use Rattle.words.specs.Words.{words_in_book, most_named}
-use Rattle.words.proofs.Numbers.{next_number, no_number_left}
+use Rattle.words.specs.Words.{most_named}
 use Rattle.edits.specs.Views.{all_in_book, view_in_range, view_repeats, padded_names}
-use Rattle.frames.specs.declared.Reading.TheVariants as Reading
-use Rattle.frames.specs.declared.ViewRead.{ViewRead}
 use Rattle.frames.specs.Numbers.{Bytes, number16, numbers16}
 use Rattle.frames.specs.Requests.{view_words_in}
-use Rattle.frames.specs.Fields.{read_as, view_read}
+use Rattle.frames.specs.Fields.{view_read}
 use Rattle.frames.proofs.Bytes.{length_numbers16}
 
 -- So many numbers of 16 bits, and one more behind them.
@@ -49,23 +47,8 @@ word_read part k word room is =
     ∙ ap padded_names (sym (another16 k part 4))
     ∙ ap (λ (i : ℕ). padded_names (numbers16 i part 4)) (sym (add-one k))
 
--- A view's words are as many as there is room for.
-pub many_words : (part : Bytes) (n : ℕ) → length part ≡ 4 + 2 * n → (length part - 4) / 2 ≡ n
-many_words part n long = omega arith
-
--- Whether the words from k on are words of the book: no where the next one isn't, else what holds of those after it; none left, yes.
-pub book_next : (words : List ℕ) (n k : ℕ) (in_book : Bool) → k < n → n ≤ length words → ltb (get_or words k 0) words_in_book ≡ in_book
-    → all_in_book (drop k (take n words)) ≡ cond in_book (all_in_book (drop (k + 1) (take n words))) false
-unfolding all_in_book
-book_next words n k in_book inside most is =
-    ap all_in_book (next_number words n k inside most) ∙ ap (λ b. cond b (all_in_book (drop (k + 1) (take n words))) false) is
-
-pub all_passed : (words : List ℕ) (n k : ℕ) → n ≤ k → all_in_book (drop k (take n words)) ≡ true
-unfolding all_in_book
-all_passed words n k none = ap all_in_book (no_number_left words n k none)
-
 -- A view whose n isn't the count of its words is refused by 10.
-pub miscounted : (part : Bytes) {n : ℕ} → n ≡ number16 part 2 → (n ≡ (length part - 4) / 2 → ⊥) → read_as (Reading.Refused 10) [] ≡ view_read (number16 part 2) (view_words_in part)
+pub miscounted : (part : Bytes) {n : ℕ} → n ≡ number16 part 2 → (n ≡ (length part - 4) / 2 → ⊥) → Err 10 ≡ view_read (number16 part 2) (view_words_in part)
 unfolding view_read view_in_range all_hold
 miscounted part is other =
     simp (ne_eqb (number16 part 2) (length (view_words_in part)) (λ same. other (is ∙ same ∙ length_numbers16 ((length part - 4) / 2) part 4)))
@@ -88,18 +71,18 @@ module _ (part : Bytes) {n : ℕ} {room : List ℕ} (is : n ≡ number16 part 2)
   there = ap (take many) held ∙ take_at words (replicate (most_named - length words) 0) many size
 
   -- a word that isn't of the book is refused by 10 too,
-  pub outside : all_in_book (take many room) ≡ false → read_as (Reading.Refused 10) [] ≡ view_read (number16 part 2) words
+  pub outside : all_in_book (take many room) ≡ false → Err 10 ≡ view_read (number16 part 2) words
   unfolding view_read view_in_range all_hold
   outside out = simp (counted, ap all_in_book (sym there) ∙ out)
 
   -- then one named twice by 11,
-  pub repeated : all_in_book (take many room) ≡ true → distinct (take many room) ≡ false → read_as (Reading.Refused 11) [] ≡ view_read (number16 part 2) words
+  pub repeated : all_in_book (take many room) ≡ true → distinct (take many room) ≡ false → Err 11 ≡ view_read (number16 part 2) words
   unfolding view_read view_in_range view_repeats all_hold
   repeated inside twice = simp (counted, ap all_in_book (sym there) ∙ inside, ap distinct (sym there) ∙ twice)
 
   -- and any other view is read.
-  pub view_read_lem : all_in_book (take many room) ≡ true → distinct (take many room) ≡ true → ◌≡◌ {A = ViewRead} (record { reading = Reading.Is; view = record { n = n; words = room } }) (view_read (number16 part 2) words)
+  pub view_read_lem : all_in_book (take many room) ≡ true → distinct (take many room) ≡ true → Ok (record { n = n; words = room }) ≡ view_read (number16 part 2) words
   unfolding view_read view_in_range view_repeats all_hold
   view_read_lem inside once =
-      (λ i. record { reading = Reading.Is; view = record { n = (same ∙ sym size) i; words = held i } })
+      (λ i. Ok (record { n = (same ∙ sym size) i; words = held i }))
       ∙ simp (counted, ap all_in_book (sym there) ∙ inside, ap distinct (sym there) ∙ once)

@@ -5,41 +5,41 @@ ghost use Rattle.legs.specs.Legs.{longest_distance};
 ghost use Rattle.edits.specs.Ranges.{passage_in_range};
 ghost use Rattle.frames.specs.Numbers.{number16, number32, signed16};
 ghost use Rattle.frames.specs.Requests.{stations_at, measure_at, minutes_at, taken_at};
-ghost use Rattle.frames.specs.Fields.{field_of, long_field_of, clino_field_of, measure_field_of, compass_minutes_field_of, clino_minutes_field_of, minutes_field_of, measure_size, measure_field_at, taken_field_of};
+ghost use Rattle.frames.specs.Fields.{field_of, clino_field_of, measure_field_of, compass_minutes_field_of, clino_minutes_field_of, minutes_field_of, measure_size, measure_field_at, taken_field_of};
 
+use frames::Taken;
 use frames::numbers::{Bits, read16, read32, signed};
-use frames::{Field, LongField, MeasureField, SignedField, Taken, TakenField};
 use legs::{Angle, Measure, Stations};
 use words::Limits;
 
 // 0 to most.
-pub fn field_up_to(part: &[u8], at: usize, most: u16) -> Field
+pub fn field_up_to(part: &[u8], at: usize, most: u16) -> Option<u16>
     requires { at + 1 < length part.now }
     ensures { result ≡ field_of (leb (number16 part.now at) most) (number16 part.now at) }
 {
     let value = read16(part, at);
     if most < value {
-        return Field::OutOfRange;
+        return None;
     }
-    Field::InRange(value)
+    Some(value)
 }
 
 // 1 to most.
-pub fn field_from_one(part: &[u8], at: usize, most: u16) -> Field
+pub fn field_from_one(part: &[u8], at: usize, most: u16) -> Option<u16>
     requires { at + 1 < length part.now }
     ensures { result ≡ field_of (within 1 most (number16 part.now at)) (number16 part.now at) }
 {
     let value = read16(part, at);
     if value < 1 {
-        return Field::OutOfRange;
+        return None;
     }
     if most < value {
-        return Field::OutOfRange;
+        return None;
     }
-    Field::InRange(value)
+    Some(value)
 }
 
-pub fn passage_field(part: &[u8], at: usize) -> Field
+pub fn passage_field(part: &[u8], at: usize) -> Option<u16>
     requires { at + 1 < length part.now }
     ensures { result ≡ field_of (passage_in_range (number16 part.now at)) (number16 part.now at) }
 {
@@ -55,22 +55,22 @@ pub fn stations_at(part: &[u8], at: usize) -> Stations
     Stations { from: from, to: to }
 }
 
-fn distance_field(part: &[u8], at: usize) -> LongField
+fn distance_field(part: &[u8], at: usize) -> Option<u32>
     requires { at + 3 < length part.now }
-    ensures { result ≡ long_field_of (within 1 longest_distance (number32 part.now at)) (number32 part.now at) }
+    ensures { result ≡ field_of (within 1 longest_distance (number32 part.now at)) (number32 part.now at) }
 {
     let distance = read32(part, at);
     if distance < 1 {
-        return LongField::OutOfRange;
+        return None;
     }
     if (Measure::LONGEST as u32) < distance {
-        return LongField::OutOfRange;
+        return None;
     }
-    LongField::InRange(distance)
+    Some(distance)
 }
 
 // The range is tested on the 16 bits: up to the steepest, or as far below 2^16.
-fn clino_field(part: &[u8], at: usize) -> SignedField
+fn clino_field(part: &[u8], at: usize) -> Option<i16>
     requires { at + 1 < length part.now }
     ensures { result ≡ clino_field_of (signed16 part.now at) }
 {
@@ -78,30 +78,24 @@ fn clino_field(part: &[u8], at: usize) -> SignedField
     let steepest = Measure::STEEPEST as u32;
     let up = bits as u32;
     if up <= steepest {
-        return SignedField::InRange(signed(bits));
+        return Some(signed(bits));
     }
     let down = Bits::TWO_BYTES - up;
     if down <= steepest {
-        return SignedField::InRange(signed(bits));
+        return Some(signed(bits));
     }
-    SignedField::OutOfRange
+    None
 }
 
 // Distance, compass and clino.
-pub fn measure_field(part: &[u8], at: usize) -> MeasureField
+pub fn measure_field(part: &[u8], at: usize) -> Option<Measure>
     requires { at + 7 < length part.now }
     ensures { result ≡ measure_field_of (measure_at part.now at) }
 {
-    let LongField::InRange(distance) = distance_field(part, at) else {
-        return MeasureField::OutOfRange;
-    };
-    let Field::InRange(compass) = field_up_to(part, at + 4, Measure::LAST_COMPASS as u16) else {
-        return MeasureField::OutOfRange;
-    };
-    let SignedField::InRange(clino) = clino_field(part, at + 6) else {
-        return MeasureField::OutOfRange;
-    };
-    MeasureField::InRange(Measure {
+    let distance = distance_field(part, at)?;
+    let compass = field_up_to(part, at + 4, Measure::LAST_COMPASS as u16)?;
+    let clino = clino_field(part, at + 6)?;
+    Some(Measure {
         distance: distance,
         compass: compass,
         clino: clino,
@@ -109,17 +103,13 @@ pub fn measure_field(part: &[u8], at: usize) -> MeasureField
 }
 
 // Degrees and minutes of the compass of an M in minutes, in hundredths of a degree.
-fn compass_in_minutes(part: &[u8], at: usize) -> Field
+fn compass_in_minutes(part: &[u8], at: usize) -> Option<u16>
     requires { at + 7 < length part.now }
     ensures { result ≡ compass_minutes_field_of (number16 part.now (at + 4)) (number16 part.now (at + 6)) }
 {
-    let Field::InRange(degrees) = field_up_to(part, at + 4, Angle::LAST_DEGREE) else {
-        return Field::OutOfRange;
-    };
-    let Field::InRange(minutes) = field_up_to(part, at + 6, Angle::LAST_MINUTE) else {
-        return Field::OutOfRange;
-    };
-    Field::InRange(legs::hundredths(degrees, minutes))
+    let degrees = field_up_to(part, at + 4, Angle::LAST_DEGREE)?;
+    let minutes = field_up_to(part, at + 6, Angle::LAST_MINUTE)?;
+    Some(legs::hundredths(degrees, minutes))
 }
 
 // The last minute that a clino of so many degrees may have: none goes over 90 degrees 0 minutes.
@@ -133,38 +123,26 @@ fn last_minute(degrees: u16) -> u16
 }
 
 // Sign, degrees and minutes of the clino of an M in minutes, in hundredths of a degree.
-fn clino_in_minutes(part: &[u8], at: usize) -> SignedField
+fn clino_in_minutes(part: &[u8], at: usize) -> Option<i16>
     requires { at + 13 < length part.now }
     ensures { result ≡ clino_minutes_field_of (number16 part.now (at + 8)) (number16 part.now (at + 10)) (number16 part.now (at + 12)) }
 {
-    let Field::InRange(sign) = field_up_to(part, at + 8, Angle::DOWN) else {
-        return SignedField::OutOfRange;
-    };
-    let Field::InRange(degrees) = field_up_to(part, at + 10, Angle::STEEPEST) else {
-        return SignedField::OutOfRange;
-    };
-    let Field::InRange(minutes) = field_up_to(part, at + 12, last_minute(degrees)) else {
-        return SignedField::OutOfRange;
-    };
+    let sign = field_up_to(part, at + 8, Angle::DOWN)?;
+    let degrees = field_up_to(part, at + 10, Angle::STEEPEST)?;
+    let minutes = field_up_to(part, at + 12, last_minute(degrees))?;
     let steepness = legs::hundredths(degrees, minutes);
-    SignedField::InRange(legs::signed_by(sign, steepness))
+    Some(legs::signed_by(sign, steepness))
 }
 
 // Distance, compass and clino in minutes: as sent they are in range, or the measure is out of it; then they are rounded.
-fn minutes_field(part: &[u8], at: usize) -> MeasureField
+fn minutes_field(part: &[u8], at: usize) -> Option<Measure>
     requires { at + 13 < length part.now }
     ensures { result ≡ minutes_field_of (minutes_at part.now at) }
 {
-    let LongField::InRange(distance) = distance_field(part, at) else {
-        return MeasureField::OutOfRange;
-    };
-    let Field::InRange(compass) = compass_in_minutes(part, at) else {
-        return MeasureField::OutOfRange;
-    };
-    let SignedField::InRange(clino) = clino_in_minutes(part, at) else {
-        return MeasureField::OutOfRange;
-    };
-    MeasureField::InRange(Measure {
+    let distance = distance_field(part, at)?;
+    let compass = compass_in_minutes(part, at)?;
+    let clino = clino_in_minutes(part, at)?;
+    Some(Measure {
         distance: distance,
         compass: compass,
         clino: clino,
@@ -182,7 +160,7 @@ pub fn measure_size(minutes: bool) -> usize
 }
 
 // M, in minutes or in hundredths.
-pub fn measure_in(minutes: bool, part: &[u8], at: usize) -> MeasureField
+pub fn measure_in(minutes: bool, part: &[u8], at: usize) -> Option<Measure>
     requires { at + measure_size minutes ≤ length part.now }
     ensures { result ≡ measure_field_at minutes part.now at }
 {
@@ -193,23 +171,15 @@ pub fn measure_in(minutes: bool, part: &[u8], at: usize) -> MeasureField
 }
 
 // f r s c.
-pub fn taken_field(part: &[u8], at: usize) -> TakenField
+pub fn taken_field(part: &[u8], at: usize) -> Option<Taken>
     requires { at + 7 < length part.now }
     ensures { result ≡ taken_field_of (taken_at part.now at) }
 {
-    let Field::InRange(newer) = field_up_to(part, at, Limits::LAST_LEG) else {
-        return TakenField::OutOfRange;
-    };
-    let Field::InRange(leg) = field_from_one(part, at + 2, Limits::LAST_LEG) else {
-        return TakenField::OutOfRange;
-    };
-    let Field::InRange(older) = field_up_to(part, at + 4, Limits::LAST_LEG) else {
-        return TakenField::OutOfRange;
-    };
-    let Field::InRange(count) = field_from_one(part, at + 6, Limits::LAST_LEG) else {
-        return TakenField::OutOfRange;
-    };
-    TakenField::InRange(Taken {
+    let newer = field_up_to(part, at, Limits::LAST_LEG)?;
+    let leg = field_from_one(part, at + 2, Limits::LAST_LEG)?;
+    let older = field_up_to(part, at + 4, Limits::LAST_LEG)?;
+    let count = field_from_one(part, at + 6, Limits::LAST_LEG)?;
+    Some(Taken {
         newer: newer,
         leg: leg,
         older: older,

@@ -8,8 +8,9 @@ ghost use Rattle.edits.specs.Views.{all_in_book, padded_names};
 ghost use Rattle.edits.specs.Ranges.{same_leg, named_twice};
 ghost use Rattle.frames.specs.Requests.{strike_kind, move_kind, length_of_kind, is_edit_kind, strike_in, move_in, view_words_in};
 ghost use Rattle.frames.specs.Numbers.{number16};
-ghost use Rattle.frames.specs.Fields.{measure_size, edit_read, add_read, correct_read, read_edit, ViewFields, read_as, view_read};
-ghost use Rattle.frames.specs.declared.Reading.TheVariants as Reading;
+ghost use Rattle.frames.specs.Fields.{measure_size, edit_read, add_read, correct_read, read_edit, ViewFields, view_read};
+ghost use Rattle.frames.specs.Refusals.{numbered};
+ghost use Rattle.frames.specs.Kinds.{kind_number};
 
 use crate::fields::{
     field_from_one, field_up_to, measure_field, measure_in, measure_size, passage_field,
@@ -17,7 +18,7 @@ use crate::fields::{
 };
 use edits::{Add, Correct, Edit, Move, Strike, View};
 use frames::numbers::read16;
-use frames::{EditRead, Field, Frame, Kind, MeasureField, Reading, Refusal, TakenField, ViewRead};
+use frames::{Frame, Kind, Refusal};
 use words::Limits;
 
 pub mod fields; // one field, in range or out of it
@@ -55,33 +56,33 @@ fn named_twice(newer: u16, leg: u16, older: u16, newest: u16) -> bool
 }
 
 // team p r h c from to M, which is in minutes or in hundredths.
-fn read_add(minutes: bool, part: &[u8]) -> EditRead
+fn read_add(minutes: bool, part: &[u8]) -> Result<Edit, Refusal>
     requires { length part.now ≡ 14 + measure_size minutes }
-    ensures { result ≡ add_read minutes part.now }
+    ensures { numbered result ≡ add_read minutes part.now }
 {
-    let Field::InRange(passage) = passage_field(part, 2) else {
-        return EditRead::Refused(Refusal::RANGE);
+    let Some(passage) = passage_field(part, 2) else {
+        return Err(Refusal::Range);
     };
-    let Field::InRange(leg) = field_from_one(part, 4, Limits::LAST_LEG) else {
-        return EditRead::Refused(Refusal::RANGE);
+    let Some(leg) = field_from_one(part, 4, Limits::LAST_LEG) else {
+        return Err(Refusal::Range);
     };
-    let Field::InRange(newest) = field_up_to(part, 6, Limits::LAST_LEG) else {
-        return EditRead::Refused(Refusal::RANGE);
+    let Some(newest) = field_up_to(part, 6, Limits::LAST_LEG) else {
+        return Err(Refusal::Range);
     };
-    let Field::InRange(count) = field_up_to(part, 8, Limits::LAST_LEG - 1) else {
-        return EditRead::Refused(Refusal::RANGE);
+    let Some(count) = field_up_to(part, 8, Limits::LAST_LEG - 1) else {
+        return Err(Refusal::Range);
     };
     let stations = stations_at(part, 10);
-    let MeasureField::InRange(measure) = measure_in(minutes, part, 14) else {
-        return EditRead::Refused(Refusal::RANGE);
+    let Some(measure) = measure_in(minutes, part, 14) else {
+        return Err(Refusal::Range);
     };
     if stations.from == stations.to {
-        return EditRead::Refused(Refusal::REPEATED);
+        return Err(Refusal::Repeated);
     }
     if named_twice(0, leg, 0, newest) {
-        return EditRead::Refused(Refusal::REPEATED);
+        return Err(Refusal::Repeated);
     }
-    EditRead::Is(Edit::Add(Add {
+    Ok(Edit::Add(Add {
         passage: passage,
         leg: leg,
         newest: newest,
@@ -92,28 +93,28 @@ fn read_add(minutes: bool, part: &[u8]) -> EditRead
 }
 
 // team p r from to, old M, new M, both in minutes or both in hundredths.
-fn read_correct(minutes: bool, part: &[u8]) -> EditRead
+fn read_correct(minutes: bool, part: &[u8]) -> Result<Edit, Refusal>
     requires { length part.now ≡ 10 + 2 * measure_size minutes }
-    ensures { result ≡ correct_read minutes part.now }
+    ensures { numbered result ≡ correct_read minutes part.now }
 {
     let second = 10 + measure_size(minutes);
-    let Field::InRange(passage) = passage_field(part, 2) else {
-        return EditRead::Refused(Refusal::RANGE);
+    let Some(passage) = passage_field(part, 2) else {
+        return Err(Refusal::Range);
     };
-    let Field::InRange(leg) = field_from_one(part, 4, Limits::LAST_LEG) else {
-        return EditRead::Refused(Refusal::RANGE);
+    let Some(leg) = field_from_one(part, 4, Limits::LAST_LEG) else {
+        return Err(Refusal::Range);
     };
     let stations = stations_at(part, 6);
-    let MeasureField::InRange(old) = measure_in(minutes, part, 10) else {
-        return EditRead::Refused(Refusal::RANGE);
+    let Some(old) = measure_in(minutes, part, 10) else {
+        return Err(Refusal::Range);
     };
-    let MeasureField::InRange(new) = measure_in(minutes, part, second) else {
-        return EditRead::Refused(Refusal::RANGE);
+    let Some(new) = measure_in(minutes, part, second) else {
+        return Err(Refusal::Range);
     };
     if stations.from == stations.to {
-        return EditRead::Refused(Refusal::REPEATED);
+        return Err(Refusal::Repeated);
     }
-    EditRead::Is(Edit::Correct(Correct {
+    Ok(Edit::Correct(Correct {
         passage: passage,
         leg: leg,
         stations: stations,
@@ -123,27 +124,27 @@ fn read_correct(minutes: bool, part: &[u8]) -> EditRead
 }
 
 // team p f r s c from to M.
-fn read_strike(part: &[u8]) -> EditRead
+fn read_strike(part: &[u8]) -> Result<Edit, Refusal>
     requires { length part.now ≡ length_of_kind strike_kind - 2 }
-    ensures { result ≡ edit_read (Edit.Strike (strike_in part.now)) }
+    ensures { numbered result ≡ edit_read (Edit.Strike (strike_in part.now)) }
 {
-    let Field::InRange(passage) = passage_field(part, 2) else {
-        return EditRead::Refused(Refusal::RANGE);
+    let Some(passage) = passage_field(part, 2) else {
+        return Err(Refusal::Range);
     };
-    let TakenField::InRange(taken) = taken_field(part, 4) else {
-        return EditRead::Refused(Refusal::RANGE);
+    let Some(taken) = taken_field(part, 4) else {
+        return Err(Refusal::Range);
     };
     let stations = stations_at(part, 12);
-    let MeasureField::InRange(measure) = measure_field(part, 16) else {
-        return EditRead::Refused(Refusal::RANGE);
+    let Some(measure) = measure_field(part, 16) else {
+        return Err(Refusal::Range);
     };
     if stations.from == stations.to {
-        return EditRead::Refused(Refusal::REPEATED);
+        return Err(Refusal::Repeated);
     }
     if named_twice(taken.newer, taken.leg, taken.older, 0) {
-        return EditRead::Refused(Refusal::REPEATED);
+        return Err(Refusal::Repeated);
     }
-    EditRead::Is(Edit::Strike(Strike {
+    Ok(Edit::Strike(Strike {
         passage: passage,
         newer: taken.newer,
         leg: taken.leg,
@@ -155,33 +156,33 @@ fn read_strike(part: &[u8]) -> EditRead
 }
 
 // team p q f r s c h d from to.
-fn read_move(part: &[u8]) -> EditRead
+fn read_move(part: &[u8]) -> Result<Edit, Refusal>
     requires { length part.now ≡ length_of_kind move_kind - 2 }
-    ensures { result ≡ edit_read (Edit.Move (move_in part.now)) }
+    ensures { numbered result ≡ edit_read (Edit.Move (move_in part.now)) }
 {
-    let Field::InRange(passage) = passage_field(part, 2) else {
-        return EditRead::Refused(Refusal::RANGE);
+    let Some(passage) = passage_field(part, 2) else {
+        return Err(Refusal::Range);
     };
-    let Field::InRange(into) = passage_field(part, 4) else {
-        return EditRead::Refused(Refusal::RANGE);
+    let Some(into) = passage_field(part, 4) else {
+        return Err(Refusal::Range);
     };
-    let TakenField::InRange(taken) = taken_field(part, 6) else {
-        return EditRead::Refused(Refusal::RANGE);
+    let Some(taken) = taken_field(part, 6) else {
+        return Err(Refusal::Range);
     };
-    let Field::InRange(newest) = field_up_to(part, 14, Limits::LAST_LEG) else {
-        return EditRead::Refused(Refusal::RANGE);
+    let Some(newest) = field_up_to(part, 14, Limits::LAST_LEG) else {
+        return Err(Refusal::Range);
     };
-    let Field::InRange(count) = field_up_to(part, 16, Limits::LAST_LEG - 1) else {
-        return EditRead::Refused(Refusal::RANGE);
+    let Some(count) = field_up_to(part, 16, Limits::LAST_LEG - 1) else {
+        return Err(Refusal::Range);
     };
     let stations = stations_at(part, 18);
     if stations.from == stations.to || into == passage {
-        return EditRead::Refused(Refusal::REPEATED);
+        return Err(Refusal::Repeated);
     }
     if named_twice(taken.newer, taken.leg, taken.older, newest) {
-        return EditRead::Refused(Refusal::REPEATED);
+        return Err(Refusal::Repeated);
     }
-    EditRead::Is(Edit::Move(Move {
+    Ok(Edit::Move(Move {
         passage: passage,
         into: into,
         newer: taken.newer,
@@ -195,18 +196,18 @@ fn read_move(part: &[u8]) -> EditRead
 }
 
 // The edit of a frame whose kind is an edit's.
-pub fn read_edit(kind: u16, part: &[u8]) -> EditRead
-    requires { (is_edit_kind kind ≡ true) × (length part.now ≡ length_of_kind kind - 2) }
-    ensures { result ≡ read_edit kind part.now }
+pub fn read_edit(kind: Kind, part: &[u8]) -> Result<Edit, Refusal>
+    requires { (is_edit_kind (kind_number kind) ≡ true) × (length part.now ≡ length_of_kind (kind_number kind) - 2) }
+    ensures { numbered result ≡ read_edit (kind_number kind) part.now }
 {
     match kind {
-        Kind::ADD | Kind::ADD_IN_MINUTES => read_add(kind == Kind::ADD_IN_MINUTES, part),
-        Kind::CORRECT | Kind::CORRECT_IN_MINUTES => read_correct(
-            kind == Kind::CORRECT_IN_MINUTES,
-            part,
-        ),
-        Kind::STRIKE => read_strike(part),
-        _ => read_move(part),
+        Kind::Add => read_add(false, part),
+        Kind::AddInMinutes => read_add(true, part),
+        Kind::Correct => read_correct(false, part),
+        Kind::CorrectInMinutes => read_correct(true, part),
+        Kind::Strike => read_strike(part),
+        Kind::Move => read_move(part),
+        Kind::Step | Kind::Look | Kind::View => unreachable!(),
     }
 }
 
@@ -216,61 +217,35 @@ fn named_words(part: &[u8], n: usize) -> [u64; Limits::NAMED]
     ensures { result ≡ padded_names (view_words_in part.now) }
 {
     let mut words = [0u64; Limits::NAMED];
-    let mut k: usize = 0;
-    while k < n {
+    for k in 0..n {
         words[k] = read16(part, 2 * Frame::FIELD + Frame::FIELD * k) as u64;
-        k += 1;
     }
     words
 }
 
-// Whether the first n are words of the book.
-fn all_in_book(words: [u64; Limits::NAMED], n: usize) -> bool
-    requires { n ≤ most_named }
-    ensures { result ≡ all_in_book (take n words) }
+// Whether all are words of the book.
+fn all_in_book(words: &[u64]) -> bool
+    ensures { result ≡ all_in_book words.now }
 {
-    let mut k: usize = 0;
-    while k < n {
-        if Limits::WORDS as u64 <= words[k] {
-            return false;
-        }
-        k += 1;
-    }
-    true
-}
-
-// A view refused, with no words.
-fn refused_view(number: u16) -> ViewRead
-    ensures { result ≡ read_as (Reading.Refused number) [] }
-{
-    ViewRead {
-        reading: Reading::Refused(number),
-        view: View {
-            n: 0,
-            words: [0; Limits::NAMED],
-        },
-    }
+    words.iter().all(|word| *word < Limits::WORDS as u64)
 }
 
 // team n, then n words.
-pub fn read_view(part: &[u8]) -> ViewRead
+pub fn read_view(part: &[u8]) -> Result<View, Refusal>
     requires { ViewFields part.now }
-    ensures { result ≡ view_read (number16 part.now 2) (view_words_in part.now) }
+    ensures { numbered result ≡ view_read (number16 part.now 2) (view_words_in part.now) }
 {
     let n = read16(part, Frame::FIELD);
     let count = (part.len() - 2 * Frame::FIELD) / Frame::FIELD;
     if n as usize != count {
-        return refused_view(Refusal::RANGE);
+        return Err(Refusal::Range);
     }
     let words = named_words(part, count);
-    if !all_in_book(words, count) {
-        return refused_view(Refusal::RANGE);
+    if !all_in_book(&words[..count]) {
+        return Err(Refusal::Range);
     }
-    if !words::distinct(words, count) {
-        return refused_view(Refusal::REPEATED);
+    if !words::distinct(&words[..count]) {
+        return Err(Refusal::Repeated);
     }
-    ViewRead {
-        reading: Reading::Is,
-        view: View { n: n, words: words },
-    }
+    Ok(View { n: n, words: words })
 }

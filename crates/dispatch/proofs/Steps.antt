@@ -1,4 +1,5 @@
 -- A step told by its first four bytes is the whole frame there, and no other frame is a step.
+use Rattle.std.specs.Prelude.{Result, Ok, Err}
 use Prim.Native.Nat.{ℕ, ◌+◌, ◌*◌, ◌-◌, ◌≤◌, ◌<◌}
 use mathlib.Core.Path.{◌≡◌, refl, sym, ap, subst, ◌∙◌}
 use mathlib.Core.Bool.{Bool, true, false, cond, not, false≢true}
@@ -12,16 +13,14 @@ use lib.Seq.{get_or-take, get_or-drop}
 use Rattle.words.specs.Tests.{some_holds}
 use Rattle.words.specs.Words.{team_count}
 use Rattle.words.proofs.Tests.{join}
-use Rattle.frames.specs.declared.Header.{Header}
 use Rattle.frames.specs.Numbers.{Bytes, number16, number32}
 use Rattle.frames.specs.Requests.{head_bytes, length_field, kind_field, part_after_kind, step_kind, look_kind, length_fits, team_in}
 use Rattle.frames.specs.Answers.{longest_answer}
 use Rattle.frames.specs.Fields.{longest_frame, frame_torn, kind_unknown, length_wrong, header_of, Whole}
 use Rattle.frames.proofs.Headers.{step_header, kind_tests}
-use Rattle.calls.specs.declared.Aim.{Aim}
+use Rattle.calls.specs.Way.{Aim}
 use Rattle.calls.specs.declared.Stop.{Stop}
 use Rattle.calls.specs.declared.Stop.TheVariants.{MoreInput, OutputFull, BadLength}
-use Rattle.calls.specs.declared.Next.TheVariants.{Frame, End}
 use Rattle.calls.specs.Way.{aim_by, aim_of, AimKnown}
 use Rattle.calls.specs.Survey.{longest_field}
 use Rattle.calls.specs.Stream.{next_at, stopped_or}
@@ -62,7 +61,7 @@ module _ (input : Bytes) (at : ℕ) (there : StepThere input at) where
   within : at + 6 ≤ length input
   within = omega (arith, there.inside)
 
-  is_step_lem : (Header.Kind step_kind ≡ header_of step_there) × Whole step_there step_kind
+  is_step_lem : (Ok step_kind ≡ header_of step_there) × Whole step_there step_kind
   is_step_lem =
       step_header step_there (join (eqb (length step_there) 6 ∷ eqb (length_field step_there) 4 ∷ eqb (kind_field step_there) 5 ∷ [])
       (eq-eqb _ _ (frame_long input at step_bytes within), (eq-eqb _ _ length_is, (eq-eqb _ _ (field_there input at step_bytes 2 (omega arith) ∙ there.kind), tt))))
@@ -70,46 +69,46 @@ module _ (input : Bytes) (at : ℕ) (there : StepThere input at) where
       length_is : length_field step_there ≡ 4
       length_is = field_there input at step_bytes 0 (omega arith) ∙ ap (number16 input) (omega arith) ∙ there.long
 
-  pub step_found : next_at input at ≡ Frame step_bytes
+  pub step_found : next_at input at ≡ Ok step_bytes
   step_found =
       let inside = there.inside in
       let long = there.long in
-      sym (next_whole input at (omega arith) (omega (arith, long)) (omega (arith, long))) ∙ ap (λ (n : ℕ). Frame (2 + n)) long
+      sym (next_whole input at (omega arith) (omega (arith, long)) (omega (arith, long))) ∙ ap (λ (n : ℕ). Ok (2 + n)) long
 
-  pub step_aimed : aim_of step_there ≡ Aim.Team step_kind (number16 input (at + head_bytes))
+  pub step_aimed : aim_of step_there ≡ Ok (Aim.Team step_kind (number16 input (at + head_bytes)))
   unfolding aim_of
   step_aimed =
       let team = team_there input at step_bytes (omega arith) in
       ap (aim_by step_there) (sym is_step_lem.0)
       ∙ sym (aim_team step_there step_kind (λ e. omega (arith, e)) (subst (λ (t : ℕ). t < team_count) (sym team) there.team))
-      ∙ ap (Aim.Team step_kind) team
+      ∙ ap (λ (t : ℕ). Ok (Aim.Team step_kind t)) team
 
-  pub step_known : AimKnown step_there (Aim.Team step_kind (number16 input (at + head_bytes)))
+  pub step_known : AimKnown step_there (Ok (Aim.Team step_kind (number16 input (at + head_bytes))))
   step_known = (is_step_lem.1, (λ e. omega (arith, e)), there.team)
 
-  pub step_ahead : (room : ℕ) → longest_answer ≤ room → (Ahead.Step (number16 input (at + head_bytes)) ≡ ahead_of input at room) × AheadInside input at room (Ahead.Step (number16 input (at + head_bytes)))
+  pub step_ahead : (room : ℕ) → longest_answer ≤ room → (Ok (Ahead.Step (number16 input (at + head_bytes))) ≡ ahead_of input at room) × AheadInside input at room (Ok (Ahead.Step (number16 input (at + head_bytes))))
   unfolding ahead_of
   step_ahead room enough = (
     sym
-        (ap (λ n. stopped_or n Ahead.End (λ size. cond (ltb room longest_answer) (Ahead.End OutputFull) (ahead_by (aim_of (frame_at input at size)) size))) step_found
-        ∙ ap (λ b. cond b (Ahead.End OutputFull) (ahead_by (aim_of step_there) step_bytes)) (le-ltb room longest_answer enough)
+        (ap (λ n. stopped_or n Err (λ size. cond (ltb room longest_answer) (Err OutputFull) (ahead_by (aim_of (frame_at input at size)) size))) step_found
+        ∙ ap (λ b. cond b (Err OutputFull) (ahead_by (aim_of step_there) step_bytes)) (le-ltb room longest_answer enough)
         ∙ ap (λ a. ahead_by a step_bytes) step_aimed),
     (record { found = step_found; least = omega arith; inside = within; answerable = enough }, step_aimed, step_known),
   )
 
 -- Without room for an answer nothing is answered, whatever frame is there.
-pub full_ahead : (input : Bytes) (at room size : ℕ) → next_at input at ≡ Frame size → room < longest_answer → Ahead.End OutputFull ≡ ahead_of input at room
+pub full_ahead : (input : Bytes) (at room size : ℕ) → next_at input at ≡ Ok size → room < longest_answer → Err OutputFull ≡ ahead_of input at room
 unfolding ahead_of
 full_ahead input at room size found short =
     sym
-    (ap (λ n. stopped_or n Ahead.End (λ size. cond (ltb room longest_answer) (Ahead.End OutputFull) (ahead_by (aim_of (frame_at input at size)) size))) found
-    ∙ ap (λ b. cond b (Ahead.End OutputFull) (ahead_by (aim_of (frame_at input at size)) size)) (lt-ltb room longest_answer short))
+    (ap (λ n. stopped_or n Err (λ size. cond (ltb room longest_answer) (Err OutputFull) (ahead_by (aim_of (frame_at input at size)) size))) found
+    ∙ ap (λ b. cond b (Err OutputFull) (ahead_by (aim_of (frame_at input at size)) size)) (lt-ltb room longest_answer short))
 
 -- Nor where there is none.
-pub end_ahead : (input : Bytes) (at room : ℕ) (stop : Stop) → next_at input at ≡ End stop → Ahead.End stop ≡ ahead_of input at room
+pub end_ahead : (input : Bytes) (at room : ℕ) (stop : Stop) → next_at input at ≡ Err stop → Err stop ≡ ahead_of input at room
 unfolding ahead_of
 end_ahead input at room stop found =
-    sym (ap (λ n. stopped_or n Ahead.End (λ size. cond (ltb room longest_answer) (Ahead.End OutputFull) (ahead_by (aim_of (frame_at input at size)) size))) found)
+    sym (ap (λ n. stopped_or n Err (λ size. cond (ltb room longest_answer) (Err OutputFull) (ahead_by (aim_of (frame_at input at size)) size))) found)
 
 -- The tests one after another.
 module _ (input : Bytes) (at : ℕ) where
@@ -152,45 +151,45 @@ step_there_lem input at low told = go (ltb (length input - at) step_bytes) (eqb 
         ]
 
 -- The size of a frame is what its length field says.
-next_size : (input : Bytes) (at size : ℕ) → next_at input at ≡ Frame size → size ≡ 2 + number16 input at
+next_size : (input : Bytes) (at size : ℕ) → next_at input at ≡ Ok size → size ≡ 2 + number16 input at
 unfolding next_at
 next_size input at size found = go (ltb (length input - at) 2) (ltb longest_field (number16 input at)) (ltb (length input - at) (2 + number16 input at)) found
   where
-    go : (short bad torn : Bool) → cond short (End MoreInput) (cond bad (End BadLength) (cond torn (End MoreInput) (Frame (2 + number16 input at)))) ≡ Frame size → size ≡ 2 + number16 input at
+    go : (short bad torn : Bool) → cond short (Err MoreInput) (cond bad (Err BadLength) (cond torn (Err MoreInput) (Ok (2 + number16 input at)))) ≡ Ok size → size ≡ 2 + number16 input at
     go true bad torn e = cc
     go false true torn e = cc
     go false false true e = cc
     go false false false e = sym (ap (λ n. stopped_or n (λ stop. 0) (λ k. k)) e)
 
 -- A frame that is aimed at a team has a known kind, and the team is its first field.
-team_aimed : (frame : Bytes) (kind team : ℕ) → aim_of frame ≡ Aim.Team kind team → (header_of frame ≡ Header.Kind kind) × (team_in (part_after_kind frame) < team_count)
+team_aimed : (frame : Bytes) (kind team : ℕ) → aim_of frame ≡ Ok (Aim.Team kind team) → (header_of frame ≡ Ok kind) × (team_in (part_after_kind frame) < team_count)
 unfolding aim_of
 team_aimed frame kind team aimed = go (header_of frame) refl aimed
   where
-    is_team : Aim → Bool
-    is_team (Aim.Refused number) = false
-    is_team Aim.Look = false
-    is_team (Aim.Team k t) = true
+    is_team : Result Aim ℕ → Bool
+    is_team (Err number) = false
+    is_team (Ok Aim.Look) = false
+    is_team (Ok (Aim.Team k t)) = true
 
-    no_team : {aim : Aim} → aim ≡ Aim.Team kind team → is_team aim ≡ true
+    no_team : {aim : Result Aim ℕ} → aim ≡ Ok (Aim.Team kind team) → is_team aim ≡ true
     no_team e = ap is_team e
 
-    go : (header : Header) → header_of frame ≡ header → aim_by frame header ≡ Aim.Team kind team → (header_of frame ≡ Header.Kind kind) × (team_in (part_after_kind frame) < team_count)
-    go (Header.Refused number) is e = absurd (false≢true (no_team e))
-    go (Header.Kind k) is e = by (eqb k look_kind) (ltb (team_in (part_after_kind frame)) team_count) refl e
+    go : (header : Result ℕ ℕ) → header_of frame ≡ header → aim_by frame header ≡ Ok (Aim.Team kind team) → (header_of frame ≡ Ok kind) × (team_in (part_after_kind frame) < team_count)
+    go (Err number) is e = absurd (false≢true (no_team e))
+    go (Ok k) is e = by (eqb k look_kind) (ltb (team_in (part_after_kind frame)) team_count) refl e
       where
-        kind_of : Aim → ℕ
-        kind_of (Aim.Refused number) = 0
-        kind_of Aim.Look = 0
-        kind_of (Aim.Team k t) = k
+        kind_of : Result Aim ℕ → ℕ
+        kind_of (Err number) = 0
+        kind_of (Ok Aim.Look) = 0
+        kind_of (Ok (Aim.Team k t)) = k
 
-        by : (look known : Bool) → ltb (team_in (part_after_kind frame)) team_count ≡ known → cond look Aim.Look (cond known (Aim.Team k (team_in (part_after_kind frame))) (Aim.Refused 6)) ≡ Aim.Team kind team → (header_of frame ≡ Header.Kind kind) × (team_in (part_after_kind frame) < team_count)
+        by : (look known : Bool) → ltb (team_in (part_after_kind frame)) team_count ≡ known → cond {A = Result Aim ℕ} look (Ok Aim.Look) (cond known (Ok (Aim.Team k (team_in (part_after_kind frame)))) (Err 6)) ≡ Ok (Aim.Team kind team) → (header_of frame ≡ Ok kind) × (team_in (part_after_kind frame) < team_count)
         by true known l e = absurd (false≢true (no_team e))
         by false false l e = absurd (false≢true (no_team e))
-        by false true l e = (is ∙ ap Header.Kind (ap kind_of e), ltb-true _ _ l)
+        by false true l e = (is ∙ ap Ok (ap kind_of e), ltb-true _ _ l)
 
 -- So it is a step by its first four bytes, if its kind is a step's.
-step_told : (input : Bytes) (at size team : ℕ) → next_at input at ≡ Frame size → at + size ≤ length input → aim_of (frame_at input at size) ≡ Aim.Team step_kind team → step_at input at ≡ true
+step_told : (input : Bytes) (at size team : ℕ) → next_at input at ≡ Ok size → at + size ≤ length input → aim_of (frame_at input at size) ≡ Ok (Aim.Team step_kind team) → step_at input at ≡ true
 unfolding some_holds length_fits
 step_told input at size team found inside aimed =
     ap (λ b. cond b false (cond (eqb (number32 input at) step_head) (ltb (number16 input (at + head_bytes)) team_count) false)) (le-ltb (length input - at) step_bytes (omega (arith, six, inside)))
@@ -229,21 +228,21 @@ step_told input at size team found inside aimed =
     six = next_size input at size found ∙ ap (λ (n : ℕ). 2 + n) four
 
 -- Any other whole frame is answered as such.
-pub other_ahead : (input : Bytes) (at room size : ℕ) → step_at input at ≡ false → next_at input at ≡ Frame size → 2 ≤ size → at + size ≤ length input → longest_answer ≤ room
-    → (Ahead.Other size ≡ ahead_of input at room) × AheadInside input at room (Ahead.Other size)
+pub other_ahead : (input : Bytes) (at room size : ℕ) → step_at input at ≡ false → next_at input at ≡ Ok size → 2 ≤ size → at + size ≤ length input → longest_answer ≤ room
+    → (Ok (Ahead.Other size) ≡ ahead_of input at room) × AheadInside input at room (Ok (Ahead.Other size))
 unfolding ahead_of
 other_ahead input at room size untold found least inside enough = (
   sym
-      (ap (λ n. stopped_or n Ahead.End (λ size. cond (ltb room longest_answer) (Ahead.End OutputFull) (ahead_by (aim_of (frame_at input at size)) size))) found
-      ∙ ap (λ b. cond b (Ahead.End OutputFull) (ahead_by (aim_of (frame_at input at size)) size)) (le-ltb room longest_answer enough)
+      (ap (λ n. stopped_or n Err (λ size. cond (ltb room longest_answer) (Err OutputFull) (ahead_by (aim_of (frame_at input at size)) size))) found
+      ∙ ap (λ b. cond b (Err OutputFull) (ahead_by (aim_of (frame_at input at size)) size)) (le-ltb room longest_answer enough)
       ∙ by (aim_of (frame_at input at size)) refl),
   record { found = found; least = least; inside = inside; answerable = enough },
 )
   where
-    by : (aim : Aim) → aim_of (frame_at input at size) ≡ aim → ahead_by aim size ≡ Ahead.Other size
-    by (Aim.Refused number) is = refl
-    by Aim.Look is = refl
-    by (Aim.Team kind team) is = elim (ℕ_discrete kind step_kind) [
-      | yes step ↦ absurd (false≢true (sym untold ∙ step_told input at size team found inside (is ∙ ap (λ (k : ℕ). Aim.Team k team) step)))
-      | no other ↦ ap (λ b. cond b (Ahead.Step team) (Ahead.Other size)) (ne_eqb kind step_kind other)
+    by : (aim : Result Aim ℕ) → aim_of (frame_at input at size) ≡ aim → ahead_by aim size ≡ Ok (Ahead.Other size)
+    by (Err number) is = refl
+    by (Ok Aim.Look) is = refl
+    by (Ok (Aim.Team kind team)) is = elim (ℕ_discrete kind step_kind) [
+      | yes step ↦ absurd (false≢true (sym untold ∙ step_told input at size team found inside (is ∙ ap (λ (k : ℕ). Ok (Aim.Team k team)) step)))
+      | no other ↦ ap (λ b. cond b (Ok (Ahead.Step team)) (Ok (Ahead.Other size))) (ne_eqb kind step_kind other)
     ]

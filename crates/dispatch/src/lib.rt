@@ -4,80 +4,79 @@
 ghost use Rattle.std.specs.Prelude.{◌≡◌, ◌+◌, ◌≤◌, ◌<◌, length};
 ghost use Rattle.words.specs.Words.{team_count};
 ghost use Rattle.frames.specs.Fields.{Whole};
-ghost use Rattle.frames.specs.declared.Header.TheVariants as Header;
+ghost use Rattle.frames.specs.Kinds.{kind_number};
 ghost use Rattle.calls.specs.Stream.{next_at, NextInside};
-ghost use Rattle.calls.specs.Way.{aim_by, aim_of, AimKnown, SlotKnown, slot_of};
+ghost use Rattle.calls.specs.Way.{aim_numbered, aim_by, aim_of, AimKnown, SlotKnown, slot_of};
 ghost use Rattle.dispatch.specs.Ahead.{step_at, ahead_of, AheadInside};
 
-use calls::{Aim, Next, Stop};
-use frames::{Answer, Frame, Header, Kind, Refusal};
+use calls::{Aim, Stop};
+use frames::{Answer, Frame, Kind, Refusal};
 use words::Limits;
 
-// What stands at a place of the input: a team's step, another whole frame of so many bytes, or nothing to be answered.
+// A whole frame that stands at a place of the input: a team's step, or another of so many bytes. Neither is an error, so that it is
+// no Result.
 #[derive(Clone, Copy)]
 pub enum Ahead {
-    End(Stop),
     Step(u16),
     Other(usize),
 }
 
 // A look goes to no team, whatever its fields.
-fn aim_by_kind(frame: &[u8], kind: u16) -> Aim
-    requires { Whole frame.now kind }
-    ensures { (result ≡ aim_by frame.now (Header.Kind kind)) × AimKnown frame.now result }
+fn aim_by_kind(frame: &[u8], kind: Kind) -> Result<Aim, Refusal>
+    requires { Whole frame.now (kind_number kind) }
+    ensures { (aim_numbered result ≡ aim_by frame.now (Ok (kind_number kind))) × AimKnown frame.now (aim_numbered result) }
 {
-    if kind == Kind::LOOK {
-        return Aim::Look;
+    if let Kind::Look = kind {
+        return Ok(Aim::Look);
     }
     let part = frames::head::part_after_kind(frame);
     let team = frames::numbers::read16(part, 0);
     if team < Limits::TEAMS as u16 {
-        Aim::Team(kind, team)
+        Ok(Aim::Team(kind, team))
     } else {
-        Aim::Refused(Refusal::TEAM)
+        Err(Refusal::Team)
     }
 }
 
-pub fn aim_of(frame: &[u8]) -> Aim
-    ensures { (result ≡ aim_of frame.now) × AimKnown frame.now result }
+pub fn aim_of(frame: &[u8]) -> Result<Aim, Refusal>
+    ensures { (aim_numbered result ≡ aim_of frame.now) × AimKnown frame.now (aim_numbered result) }
 {
-    let header = frames::head::read_header(frame);
-    match header {
-        Header::Refused(number) => Aim::Refused(number),
-        Header::Kind(kind) => aim_by_kind(frame, kind),
-    }
+    let kind = frames::head::read_header(frame)?;
+    aim_by_kind(frame, kind)
 }
 
 // The slot that a frame uses: its team's, else the first, which it leaves as it is.
-pub fn slot_of(aim: Aim) -> usize
-    requires { SlotKnown aim }
-    ensures { (result ≡ slot_of aim) × (result < team_count) }
+pub fn slot_of(aim: Result<Aim, Refusal>) -> usize
+    requires { SlotKnown (aim_numbered aim) }
+    ensures { (result ≡ slot_of (aim_numbered aim)) × (result < team_count) }
 {
+    let Ok(aim) = aim else {
+        return 0;
+    };
     match aim {
-        Aim::Refused(number) => 0,
         Aim::Look => 0,
-        Aim::Team(kind, team) => team as usize,
+        Aim::Team(_, team) => team as usize,
     }
 }
 
 // The size of the whole frame at a place, or why there is none.
-fn next_frame(input: &[u8], at: usize) -> Next
+fn next_frame(input: &[u8], at: usize) -> Result<usize, Stop>
     requires { at ≤ length input.now }
     ensures { (result ≡ next_at input.now at) × NextInside input.now at result }
 {
     let rest = input.len() - at;
     if rest < Frame::FIELD {
-        return Next::End(Stop::MoreInput);
+        return Err(Stop::MoreInput);
     }
     let length = frames::numbers::read16(input, at) as usize;
     if Frame::LONGEST - Frame::FIELD < length {
-        return Next::End(Stop::BadLength);
+        return Err(Stop::BadLength);
     }
     let size = Frame::FIELD + length;
     if rest < size {
-        return Next::End(Stop::MoreInput);
+        return Err(Stop::MoreInput);
     }
-    Next::Frame(size)
+    Ok(size)
 }
 
 // Whether a whole step of a team stands at a place, told by its first four bytes as one number: most frames are steps.
@@ -95,23 +94,19 @@ fn is_step_at(input: &[u8], at: usize) -> bool
 }
 
 // What stands at a place, with so much room for its answer.
-pub fn next_at(input: &[u8], at: usize, room: usize) -> Ahead
+pub fn next_at(input: &[u8], at: usize, room: usize) -> Result<Ahead, Stop>
     requires { at ≤ length input.now }
     ensures { (result ≡ ahead_of input.now at room) × AheadInside input.now at room result }
 {
     if is_step_at(input, at) {
         if room < Answer::LONGEST {
-            return Ahead::End(Stop::OutputFull);
+            return Err(Stop::OutputFull);
         }
-        return Ahead::Step(frames::numbers::read16(input, at + Frame::HEAD));
+        return Ok(Ahead::Step(frames::numbers::read16(input, at + Frame::HEAD)));
     }
-    let next = next_frame(input, at);
-    match next {
-        Next::End(stop) => Ahead::End(stop),
-        Next::Frame(size) => if room < Answer::LONGEST {
-            Ahead::End(Stop::OutputFull)
-        } else {
-            Ahead::Other(size)
-        },
+    let size = next_frame(input, at)?;
+    if room < Answer::LONGEST {
+        return Err(Stop::OutputFull);
     }
+    Ok(Ahead::Other(size))
 }

@@ -6,7 +6,7 @@ use mathlib.Core.List.{List, [], ◌∷◌, ◌++◌, map}
 use mathlib.Core.Option.{Option, none, some}
 use lib.ListN.{length, replicate}
 use Rattle.tickets.specs.declared.StepAnswer.TheVariants.{Claimed, Waiting, Found, Put, Granted, Stale}
-use Rattle.tickets.specs.declared.LookAnswer.TheVariants.{Value, Held}
+use Rattle.std.specs.Prelude.{None, Some}
 use Rattle.edits.specs.declared.Edit.{Edit}
 use Rattle.edits.specs.declared.Edit.TheVariants.{Add}
 use Rattle.frames.specs.declared.Answer.TheVariants as Answer
@@ -62,10 +62,10 @@ contended =
     ∷ steps 9 0 ++ (Look 0 ∷ Step 1 ∷ Step 1 ∷ []))
 
 contended_answers : answers contended
-    ≡ map some (Answer.Standing 5 ∷ Answer.Standing 5 ∷ Answer.Step (Claimed 1) ∷ Answer.Step (Waiting 0 0) ∷ Answer.Look Held ∷ Answer.Look (Value 0)
+    ≡ map some (Answer.Standing 5 ∷ Answer.Standing 5 ∷ Answer.Step (Claimed 1) ∷ Answer.Step (Waiting 0 0) ∷ Answer.Look None ∷ Answer.Look (Some 0)
     ∷ Answer.Step (Claimed 2) ∷ Answer.Step (Claimed 3) ∷ Answer.Step (Claimed 4) ∷ Answer.Step (Claimed 5)
     ∷ Answer.Step (Put 1) ∷ Answer.Step (Put 2) ∷ Answer.Step (Put 3) ∷ Answer.Step (Put 4) ∷ Answer.Step (Granted 10)
-    ∷ Answer.Look (Value 1) ∷ Answer.Step (Stale 0 2) ∷ Answer.Refused 9 ∷ [])
+    ∷ Answer.Look (Some 1) ∷ Answer.Step (Stale 0 2) ∷ Answer.Refused 9 ∷ [])
 unfolding every_run
 contended_answers = refl
 

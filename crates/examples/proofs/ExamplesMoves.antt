@@ -8,7 +8,7 @@ use lib.ListN.{take, drop, replicate}
 use lib.IntN.{pos}
 use Rattle.legs.specs.Legs.{place_of, measure_of}
 use Rattle.tickets.specs.declared.StepAnswer.TheVariants.{Claimed, Waiting, Found, Put, Returned, Granted, Stale}
-use Rattle.tickets.specs.declared.LookAnswer.TheVariants.{Value, Held}
+use Rattle.std.specs.Prelude.{None, Some}
 use Rattle.edits.specs.declared.Edit.{Edit}
 use Rattle.edits.specs.declared.Edit.TheVariants.{Add, Correct, Strike, Move}
 use Rattle.frames.specs.declared.Answer.TheVariants as Answer
@@ -40,11 +40,11 @@ opposite =
     ∷ steps 7 1 ++ (Step 0 ∷ steps 8 1) ++ (Step 0 ∷ Look 2 ∷ [])
 
 opposite_answers : drop 22 (answers (calls (setting ++ opposite)))
-    ≡ map some (Answer.Standing 8 ∷ Answer.Standing 8 ∷ Answer.Step (Claimed 1) ∷ Answer.Step (Waiting 0 1) ∷ Answer.Look Held ∷ Answer.Look (Value 2)
+    ≡ map some (Answer.Standing 8 ∷ Answer.Standing 8 ∷ Answer.Step (Claimed 1) ∷ Answer.Step (Waiting 0 1) ∷ Answer.Look None ∷ Answer.Look (Some 2)
     ∷ Answer.Step (Claimed 2) ∷ Answer.Step (Claimed 3) ∷ Answer.Step (Claimed 4) ∷ Answer.Step (Claimed 5) ∷ Answer.Step (Claimed 6) ∷ Answer.Step (Claimed 7) ∷ Answer.Step (Claimed 8)
     ∷ Answer.Step (Waiting 0 1)
     ∷ Answer.Step (Put 1) ∷ Answer.Step (Put 2) ∷ Answer.Step (Put 3) ∷ Answer.Step (Put 4) ∷ Answer.Step (Put 5) ∷ Answer.Step (Put 6) ∷ Answer.Step (Put 7) ∷ Answer.Step (Granted 16)
-    ∷ Answer.Step (Stale 0 3) ∷ Answer.Look (Value 0) ∷ [])
+    ∷ Answer.Step (Stale 0 3) ∷ Answer.Look (Some 0) ∷ [])
 unfolding every_run
 opposite_answers = refl
 

@@ -8,7 +8,7 @@ use lib.ListN.{take, drop, replicate}
 use Rattle.words.specs.Words.{Words, words_in_store, team_count}
 use Rattle.legs.proofs.Examples.{turned}
 use Rattle.tickets.specs.declared.StepAnswer.TheVariants.{Claimed, Waiting, Put, Granted, Stale}
-use Rattle.tickets.specs.declared.LookAnswer.TheVariants.{Value, Held}
+use Rattle.std.specs.Prelude.{None, Some}
 use Rattle.tickets.specs.Tickets.{fresh_tickets, stands_below}
 use Rattle.frames.specs.Request.{Request, Open, Step, Look}
 use Rattle.frames.specs.declared.Answer.{Answer}
@@ -93,11 +93,11 @@ told word first second =
 abbrev answers_in : List (Option Answer)
 answers_in = map answer_heard (heard_on store both)
 
-before_load : take 22 (drop 23 answers_in) ≡ told 0 (Answer.Look Held) (Answer.Look (Value 2))
+before_load : take 22 (drop 23 answers_in) ≡ told 0 (Answer.Look None) (Answer.Look (Some 2))
 unfolding every_rank
 before_load = refl
 
-after_load : drop 47 answers_in ≡ told 2 (Answer.Look (Value 1)) (Answer.Look Held)
+after_load : drop 47 answers_in ≡ told 2 (Answer.Look (Some 1)) (Answer.Look None)
 unfolding every_rank
 after_load = refl
 

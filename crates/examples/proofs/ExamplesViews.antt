@@ -8,7 +8,7 @@ use lib.ListN.{take, drop}
 use lib.IntN.{pos}
 use Rattle.legs.specs.Legs.{place_of, measure_of}
 use Rattle.tickets.specs.declared.StepAnswer.TheVariants.{Claimed, Waiting, Put, Returned, Granted, Seen}
-use Rattle.tickets.specs.declared.LookAnswer.TheVariants.{Value}
+use Rattle.std.specs.Prelude.{None, Some}
 use Rattle.edits.specs.declared.Edit.{Edit}
 use Rattle.edits.specs.declared.Edit.TheVariants.{Add, Correct}
 use Rattle.frames.specs.declared.Answer.TheVariants as Answer
@@ -58,8 +58,8 @@ views =
 views_answers : drop 24 (answers (calls views))
     ≡ map some (Answer.Standing 2 ∷ Answer.Step (Waiting 65 1) ∷ Answer.Step (Claimed 2) ∷ Answer.Step (Claimed 3) ∷ Answer.Step (Waiting 65 1)
     ∷ Answer.Step (Returned 1) ∷ Answer.Step (Returned 2) ∷ Answer.Step (Claimed 1) ∷ Answer.Step (Claimed 2) ∷ Answer.Step (Put 1) ∷ Answer.Step (Granted 6)
-    ∷ Answer.Look (Value after)
-    ∷ Answer.Step (Seen (record { n = 3; first = before; second = place; third = place_of 1 stations; fourth = 0; fifth = 0; sixth = 0 })) ∷ [])
+    ∷ Answer.Look (Some after)
+    ∷ Answer.Step (Seen (record { n = 3; values = before ∷ place ∷ place_of 1 stations ∷ 0 ∷ 0 ∷ 0 ∷ [] })) ∷ [])
 unfolding every_run
 views_answers = refl
 

@@ -12,7 +12,7 @@ use Rattle.tickets.specs.declared.Phase.{Phase}
 use Rattle.tickets.specs.declared.Phase.TheVariants.{Claiming, Putting}
 use Rattle.tickets.specs.declared.StepAnswer.{StepAnswer}
 use Rattle.tickets.specs.declared.StepAnswer.TheVariants.{Claimed, Found, Put, Granted, Stale, Seen}
-use Rattle.tickets.specs.declared.LookAnswer.TheVariants.{Value}
+use Rattle.std.specs.Prelude.{None, Some}
 use Rattle.tickets.specs.Tickets.{Tickets, fresh_tickets, with_ticket}
 use Rattle.tickets.specs.Steps.{advanced}
 use Rattle.edits.specs.declared.Edit.{Edit}
@@ -60,7 +60,7 @@ unfolding every_run
 always_stale right = let number : ◌≡◌ {A = ℕ} 1 0 = ap verdict_number (right.granted_succeed [] [] stale adding refl) in omega arith
 
 -- looks_agree: a look that shows a mark.
-shows_mark : Linearizable (running (2 ^ 63 ∷ replicate 4095 0) fresh_tickets (heard_as (Look 0) (Answer.Look (Value (2 ^ 63))) ∷ [])) → ⊥
+shows_mark : Linearizable (running (2 ^ 63 ∷ replicate 4095 0) fresh_tickets (heard_as (Look 0) (Answer.Look (Some (2 ^ 63))) ∷ [])) → ⊥
 unfolding every_run
 shows_mark right = let shown : ◌≡◌ {A = ℕ} (2 ^ 63) 0 = right.looks_agree [] [] 0 (2 ^ 63) refl in omega arith
 
@@ -68,7 +68,7 @@ shows_mark right = let shown : ◌≡◌ {A = ℕ} (2 ^ 63) 0 = right.looks_agre
 abbrev seeing : List Heard
 seeing =
     heard_as (View 0 1 (2 ∷ [])) (Answer.Standing 1) ∷ heard_as (Step 0) (Answer.Step (Claimed 1))
-    ∷ heard_as (Step 0) (Answer.Step (Seen (record { n = 1; first = 7; second = 0; third = 0; fourth = 0; fifth = 0; sixth = 0 }))) ∷ []
+    ∷ heard_as (Step 0) (Answer.Step (Seen (record { n = 1; values = 7 ∷ 0 ∷ 0 ∷ 0 ∷ 0 ∷ 0 ∷ [] }))) ∷ []
 
 shows_another_value : Linearizable (running fresh_book fresh_tickets seeing) → ⊥
 unfolding every_run

@@ -1,20 +1,16 @@
--- Numbers in bytes: what is put is read back, the halves of a number, and how large what is read can be.
-use Prim.Native.Nat.{ℕ, zero, suc, ◌+◌, ◌*◌, ◌-◌, ◌/◌, ◌%◌, ◌<◌, ◌≤◌, ◌^◌}
+-- Numbers in bytes: what is put is read back, the low half of a number, and how large what is read can be.
+use Prim.Native.Nat.{ℕ, zero, suc, ◌+◌, ◌*◌, ◌/◌, ◌%◌, ◌<◌, ◌^◌}
 use mathlib.Core.Path.{◌≡◌, refl, sym, ap, ◌∙◌}
 use mathlib.Core.List.{List, [], ◌∷◌, map}
 use mathlib.Core.Bool.{Bool, true, false, cond, false≢true}
 use native.Mathlib.Omega.{arith}
 use native.Mathlib.Nat.{add-mul-mod_self_left}
-use borrow.Author.Tests.{ltb-true, lt-ltb}
+use borrow.Author.Tests.{ltb-true}
 use lib.Dec.{ltb}
 use lib.ListN.{length, get_or, drop}
 use lib.Seq.{get_or-drop}
-use lib.IntN.{pos, negsuc, ◌-ℤ◌}
-use mir.Facts.{to_z_pos}
-use mir.Syntax.{w32}
-use mir.Val.{to_z}
 use Rattle.words.proofs.Tests.{AllTrue}
-use Rattle.frames.specs.Numbers.{Bytes, are_bytes, number16, number32, number64, numbers16, numbers64, bytes16, bytes32, fields64, fits16, fits64, NumbersFit}
+use Rattle.frames.specs.Numbers.{Bytes, are_bytes, number16, number32, number64, numbers16, numbers64, bytes16, fields64, fits16, fits64, NumbersFit}
 use Rattle.frames.specs.Writing.{fields16}
 
 -- A number that fits is read back from its bytes.
@@ -50,22 +46,6 @@ half16 x =
     let a : x % 65536 % 256 ≡ x % 256 = low_byte x (256 * q) (x % 65536) (omega arith) in
     let b : x % 65536 / 256 % 256 ≡ x / 256 % 256 = low_byte (x / 256) q (x % 65536 / 256) (omega arith) in
     rw (a, b)
-
-pub half32 : (x : ℕ) → bytes32 (x % 4294967296) ≡ bytes32 x
-half32 x =
-    let q = x / 4294967296 in
-    let a : x % 4294967296 % 256 ≡ x % 256 = low_byte x (16777216 * q) (x % 4294967296) (omega arith) in
-    let b : x % 4294967296 / 256 % 256 ≡ x / 256 % 256 = low_byte (x / 256) (65536 * q) (x % 4294967296 / 256) (omega arith) in
-    let c : x % 4294967296 / 65536 % 256 ≡ x / 65536 % 256 = low_byte (x / 65536) (256 * q) (x % 4294967296 / 65536) (omega arith) in
-    let d : x % 4294967296 / 65536 / 256 % 256 ≡ x / 65536 / 256 % 256 = low_byte (x / 65536 / 256) q (x % 4294967296 / 65536 / 256) (omega arith) in
-    rw (a, b, c, d)
-
--- Two's complement, in the machine's 32 bits.
-pub below : (bits : ℕ) → bits < 65536 → pos bits -ℤ pos 65536 ≡ negsuc (65535 - bits)
-below bits l = simp (lt-ltb bits 65536 l) (ap negsuc (omega arith))
-
-pub kept : (n : ℕ) → n ≤ 65536 → to_z w32 n ≡ pos n
-kept n l = to_z_pos w32 (omega arith)
 
 -- A byte of a list of bytes is below 256, and so are those of what is left of it.
 pub first_byte : (byte : ℕ) (bytes : Bytes) → are_bytes (byte ∷ bytes) ≡ true → (byte < 256) × (are_bytes bytes ≡ true)

@@ -13,19 +13,17 @@ use Rattle.legs.specs.Minutes.{Minutes, hundredths_of}
 use Rattle.tickets.specs.declared.StepAnswer.TheVariants.{Waiting, Granted, Stale, Seen}
 use Rattle.tickets.specs.declared.Values.{Values}
 use Rattle.tickets.specs.Steps.{values_from}
-use Rattle.tickets.specs.declared.LookAnswer.TheVariants.{Value, Held}
+use Rattle.std.specs.Prelude.{None, Some}
 use Rattle.edits.specs.declared.Edit.{Edit}
 use Rattle.edits.specs.Ranges.{edit_in_range, edit_repeats}
 use Rattle.edits.specs.Views.{all_in_book, view_in_range, view_repeats}
 use Rattle.frames.specs.Request as Request
 use Rattle.frames.specs.declared.Answer.TheVariants as Answer
-use Rattle.frames.specs.declared.Header.TheVariants as Header
-use Rattle.frames.specs.declared.EditRead.TheVariants as EditRead
-use Rattle.frames.specs.declared.Reading.TheVariants as Reading
+use Rattle.std.specs.Prelude.{Ok, Err}
 use Rattle.frames.specs.Numbers.{Bytes, numbers16, numbers64, fields64}
 use Rattle.frames.specs.Requests.{length_of_kind, is_edit_kind, is_kind, length_fits, add_in, add_in_minutes, correct_in_minutes, edit_of_kind, request_of_kind, request_in}
 use Rattle.frames.specs.Answers.{answer_frame, written}
-use Rattle.frames.specs.Fields.{header_of, edit_read, read_as, view_read}
+use Rattle.frames.specs.Fields.{header_of, edit_read, view_read}
 use Rattle.frames.specs.Writing.{request_frame}
 use Rattle.frames.specs.Minutes.{AddInMinutes, CorrectInMinutes, minutes_frame}
 use Rattle.frames.specs.Reading.{answer_in}
@@ -51,7 +49,7 @@ whole_case_read : request_in whole_case ≡ Request.Open 0 (adding 5000 (negsuc 
 unfolding request_in request_of_kind edit_of_kind add_in
 whole_case_read = refl
 
-whole_case_header : header_of whole_case ≡ Header.Kind 1
+whole_case_header : header_of whole_case ≡ Ok 1
 unfolding header_of length_fits some_holds all_hold
 whole_case_header = refl
 
@@ -72,7 +70,7 @@ view_read_lem : request_in two_words ≡ Request.View 3 2 (64 ∷ 4095 ∷ [])
 unfolding request_in request_of_kind numbers16
 view_read_lem = refl
 
-view_header : header_of two_words ≡ Header.Kind 7
+view_header : header_of two_words ≡ Ok 7
 unfolding header_of length_fits some_holds all_hold
 view_header = refl
 
@@ -88,11 +86,11 @@ edit_kinds_lem : map is_edit_kind (0 ∷ 1 ∷ 2 ∷ 3 ∷ 4 ∷ 5 ∷ 7 ∷ 16 
 edit_kinds_lem = refl
 
 -- Kind 17 with the length of an Add in hundredths, and kind 16 with its own.
-short_in_minutes : header_of (24 ∷ 0 ∷ 17 ∷ 0 ∷ replicate 22 0) ≡ Header.Refused 5
+short_in_minutes : header_of (24 ∷ 0 ∷ 17 ∷ 0 ∷ replicate 22 0) ≡ Err 5
 unfolding header_of length_fits some_holds all_hold
 short_in_minutes = refl
 
-kind_16 : header_of (30 ∷ 0 ∷ 16 ∷ 0 ∷ replicate 28 0) ≡ Header.Refused 4
+kind_16 : header_of (30 ∷ 0 ∷ 16 ∷ 0 ∷ replicate 28 0) ≡ Err 4
 unfolding header_of length_fits some_holds all_hold
 kind_16 = refl
 
@@ -119,7 +117,7 @@ minutes_read : request_in minutes_case ≡ Request.Open 0 (adding 5000 (negsuc 1
 unfolding request_in request_of_kind edit_of_kind add_in_minutes hundredths_of
 minutes_read = refl
 
-minutes_header : header_of minutes_case ≡ Header.Kind 17
+minutes_header : header_of minutes_case ≡ Ok 17
 unfolding header_of length_fits some_holds all_hold
 minutes_header = refl
 
@@ -158,7 +156,7 @@ correction_read : request_in correction_case ≡ Request.Open 0 (Edit.Correct (r
 unfolding request_in request_of_kind edit_of_kind correct_in_minutes hundredths_of
 correction_read = refl
 
-correction_header : header_of correction_case ≡ Header.Kind 18
+correction_header : header_of correction_case ≡ Ok 18
 unfolding header_of length_fits some_holds all_hold
 correction_header = refl
 
@@ -189,11 +187,11 @@ unfolding answer_in answer_frame numbers64 fields64
 waiting_heard = refl
 
 -- The measure of the leg above, looked at.
-value : answer_frame (Answer.Look (Value 76022100792200)) ≡ 10 ∷ 0 ∷ 136 ∷ 0 ∷ 136 ∷ 19 ∷ 80 ∷ 70 ∷ 36 ∷ 69 ∷ 0 ∷ 0 ∷ []
+value : answer_frame (Answer.Look (Some 76022100792200)) ≡ 10 ∷ 0 ∷ 136 ∷ 0 ∷ 136 ∷ 19 ∷ 80 ∷ 70 ∷ 36 ∷ 69 ∷ 0 ∷ 0 ∷ []
 unfolding answer_frame
 value = refl
 
-held : answer_frame (Answer.Look Held) ≡ 2 ∷ 0 ∷ 137 ∷ 0 ∷ []
+held : answer_frame (Answer.Look None) ≡ 2 ∷ 0 ∷ 137 ∷ 0 ∷ []
 unfolding answer_frame
 held = refl
 
@@ -214,7 +212,7 @@ unfolding answer_in answer_frame numbers64 fields64
 seen_heard = refl
 
 -- The bytes of an output after the frame stay.
-held_written : written (replicate 12 7) (answer_frame (Answer.Look Held)) ≡ (4, 2 ∷ 0 ∷ 137 ∷ 0 ∷ replicate 8 7)
+held_written : written (replicate 12 7) (answer_frame (Answer.Look None)) ≡ (4, 2 ∷ 0 ∷ 137 ∷ 0 ∷ replicate 8 7)
 unfolding answer_frame
 held_written = refl
 
@@ -236,49 +234,49 @@ unfolding answer_in answer_frame numbers64 fields64
 heard_kind = refl
 
 -- Frames refused by 3, 4 and 5.
-short : header_of (2 ∷ 0 ∷ 5 ∷ []) ≡ Header.Refused 3
+short : header_of (2 ∷ 0 ∷ 5 ∷ []) ≡ Err 3
 unfolding header_of length_fits some_holds all_hold
 short = refl
 
-torn : header_of (6 ∷ 0 ∷ 5 ∷ 0 ∷ 0 ∷ 0 ∷ []) ≡ Header.Refused 3
+torn : header_of (6 ∷ 0 ∷ 5 ∷ 0 ∷ 0 ∷ 0 ∷ []) ≡ Err 3
 unfolding header_of length_fits some_holds all_hold
 torn = refl
 
-kind_8 : header_of (4 ∷ 0 ∷ 8 ∷ 0 ∷ 0 ∷ 0 ∷ []) ≡ Header.Refused 4
+kind_8 : header_of (4 ∷ 0 ∷ 8 ∷ 0 ∷ 0 ∷ 0 ∷ []) ≡ Err 4
 unfolding header_of length_fits some_holds all_hold
 kind_8 = refl
 
-step_as_add : header_of (4 ∷ 0 ∷ 1 ∷ 0 ∷ 0 ∷ 0 ∷ []) ≡ Header.Refused 5
+step_as_add : header_of (4 ∷ 0 ∷ 1 ∷ 0 ∷ 0 ∷ 0 ∷ []) ≡ Err 5
 unfolding header_of length_fits some_holds all_hold
 step_as_add = refl
 
 -- A view with no word, with half a word more than none or one, and with seven.
-view_of_none : header_of (6 ∷ 0 ∷ 7 ∷ 0 ∷ 3 ∷ 0 ∷ 0 ∷ 0 ∷ []) ≡ Header.Refused 5
+view_of_none : header_of (6 ∷ 0 ∷ 7 ∷ 0 ∷ 3 ∷ 0 ∷ 0 ∷ 0 ∷ []) ≡ Err 5
 unfolding header_of length_fits some_holds all_hold
 view_of_none = refl
 
-view_of_half : header_of (7 ∷ 0 ∷ 7 ∷ 0 ∷ 3 ∷ 0 ∷ 1 ∷ 0 ∷ 64 ∷ []) ≡ Header.Refused 5
+view_of_half : header_of (7 ∷ 0 ∷ 7 ∷ 0 ∷ 3 ∷ 0 ∷ 1 ∷ 0 ∷ 64 ∷ []) ≡ Err 5
 unfolding header_of length_fits some_holds all_hold
 view_of_half = refl
 
-view_and_half : header_of (9 ∷ 0 ∷ 7 ∷ 0 ∷ 3 ∷ 0 ∷ 1 ∷ 0 ∷ 64 ∷ 0 ∷ 65 ∷ []) ≡ Header.Refused 5
+view_and_half : header_of (9 ∷ 0 ∷ 7 ∷ 0 ∷ 3 ∷ 0 ∷ 1 ∷ 0 ∷ 64 ∷ 0 ∷ 65 ∷ []) ≡ Err 5
 unfolding header_of length_fits some_holds all_hold
 view_and_half = refl
 
-view_of_seven : header_of (request_frame (Request.View 3 7 (0 ∷ 1 ∷ 2 ∷ 3 ∷ 4 ∷ 5 ∷ 6 ∷ []))) ≡ Header.Refused 5
+view_of_seven : header_of (request_frame (Request.View 3 7 (0 ∷ 1 ∷ 2 ∷ 3 ∷ 4 ∷ 5 ∷ 6 ∷ []))) ≡ Err 5
 unfolding header_of length_fits request_frame some_holds all_hold
 view_of_seven = refl
 
 -- Clino 9,001: 10. Distance 0: 10. Distance 100,000 passes. Strike with f = r: 11.
-clino_9001 : edit_read (adding 5000 (pos 9001)) ≡ EditRead.Refused 10
+clino_9001 : edit_read (adding 5000 (pos 9001)) ≡ Err 10
 unfolding edit_read edit_in_range edit_repeats measure_in_range all_hold some_holds
 clino_9001 = refl
 
-distance_0 : edit_read (adding 0 (negsuc 149)) ≡ EditRead.Refused 10
+distance_0 : edit_read (adding 0 (negsuc 149)) ≡ Err 10
 unfolding edit_read edit_in_range edit_repeats measure_in_range all_hold some_holds
 distance_0 = refl
 
-distance_100000 : edit_read (adding 100000 (negsuc 149)) ≡ EditRead.Is (adding 100000 (negsuc 149))
+distance_100000 : edit_read (adding 100000 (negsuc 149)) ≡ Ok (adding 100000 (negsuc 149))
 unfolding edit_read edit_in_range edit_repeats measure_in_range all_hold some_holds
 distance_100000 = refl
 
@@ -293,32 +291,32 @@ striking newer distance from to = Edit.Strike (record {
   measure = record { distance = distance; compass = 9000; clino = negsuc 149 };
 })
 
-strike_itself : edit_read (striking 1 5000 1 2) ≡ EditRead.Refused 11
+strike_itself : edit_read (striking 1 5000 1 2) ≡ Err 11
 unfolding edit_read edit_in_range edit_repeats measure_in_range all_hold some_holds
 strike_itself = refl
 
 -- 10 goes before 11 across the whole edit.
-range_first : edit_read (striking 1 0 7 7) ≡ EditRead.Refused 10
+range_first : edit_read (striking 1 0 7 7) ≡ Err 10
 unfolding edit_read edit_in_range edit_repeats measure_in_range all_hold some_holds
 range_first = refl
 
 -- A view: an n other than the count of words, or a word above 4,095: 10, before 11. Equal words: 11.
-view_other_n : view_read 3 (64 ∷ 65 ∷ []) ≡ read_as (Reading.Refused 10) []
+view_other_n : view_read 3 (64 ∷ 65 ∷ []) ≡ Err 10
 unfolding view_read view_in_range view_repeats all_in_book distinct all_hold
 view_other_n = refl
 
-view_word_4096 : view_read 2 (64 ∷ 4096 ∷ []) ≡ read_as (Reading.Refused 10) []
+view_word_4096 : view_read 2 (64 ∷ 4096 ∷ []) ≡ Err 10
 unfolding view_read view_in_range view_repeats all_in_book distinct all_hold
 view_word_4096 = refl
 
-view_twice : view_read 3 (64 ∷ 65 ∷ 64 ∷ []) ≡ read_as (Reading.Refused 11) []
+view_twice : view_read 3 (64 ∷ 65 ∷ 64 ∷ []) ≡ Err 11
 unfolding view_read view_in_range view_repeats all_in_book distinct all_hold
 view_twice = refl
 
-view_range_first : view_read 3 (4096 ∷ 64 ∷ 64 ∷ []) ≡ read_as (Reading.Refused 10) []
+view_range_first : view_read 3 (4096 ∷ 64 ∷ 64 ∷ []) ≡ Err 10
 unfolding view_read view_in_range view_repeats all_in_book distinct all_hold
 view_range_first = refl
 
-view_fine : view_read 2 (64 ∷ 4095 ∷ []) ≡ record { reading = Reading.Is; view = record { n = 2; words = 64 ∷ 4095 ∷ 0 ∷ 0 ∷ 0 ∷ 0 ∷ [] } }
+view_fine : view_read 2 (64 ∷ 4095 ∷ []) ≡ Ok (record { n = 2; words = 64 ∷ 4095 ∷ 0 ∷ 0 ∷ 0 ∷ 0 ∷ [] })
 unfolding view_read view_in_range view_repeats all_in_book distinct all_hold
 view_fine = refl

@@ -1,14 +1,14 @@
 -- An answer's frame is 4 to 52 bytes long, an even number of them, and its length field is right.
-use Prim.Native.Nat.{ℕ, ◌+◌, ◌/◌, ◌%◌, ◌≤◌}
+use Prim.Native.Nat.{ℕ, ◌+◌, ◌/◌, ◌%◌, ◌≤◌, min}
+use Rattle.words.specs.Words.{most_named}
 use mathlib.Core.Path.{◌≡◌, refl, ap}
 use mathlib.Core.List.{List, [], ◌∷◌, ◌++◌}
 use mathlib.Core.Bool.{true}
 use native.Mathlib.Omega.{arith}
 use borrow.Author.Tests.{lt-ltb}
 use lib.ListN.{length, length-take}
-use Rattle.tickets.specs.Steps.{values_of}
 use Rattle.tickets.specs.declared.StepAnswer.TheVariants.{Claimed, Waiting, Found, Put, Returned, Granted, Stale, Seen}
-use Rattle.tickets.specs.declared.LookAnswer.TheVariants.{Value, Held}
+use Rattle.std.specs.Prelude.{None, Some}
 use Rattle.frames.specs.declared.Answer.{Answer}
 use Rattle.frames.specs.declared.Answer.TheVariants.{Standing, Step, Look, Refused}
 use Rattle.frames.specs.Numbers.{Bytes, are_bytes, bytes16, bytes32, bytes64, fields64}
@@ -54,9 +54,9 @@ few_fields (Step (Put many)) = omega arith
 few_fields (Step (Returned many)) = omega arith
 few_fields (Step (Granted tries)) = omega arith
 few_fields (Step (Stale word tries)) = omega arith
-few_fields (Step (Seen values)) = omega (arith, length_fields64 (values_shown values), length-take values.n (values_of values))
-few_fields (Look (Value value)) = omega arith
-few_fields (Look Held) = omega arith
+few_fields (Step (Seen values)) = omega (arith, length_fields64 (values_shown values), length-take (min values.n most_named) values.values)
+few_fields (Look (Some value)) = omega arith
+few_fields (Look None) = omega arith
 few_fields (Refused number) = omega arith
 
 fields_bytes : (answer : Answer) → are_bytes (answer_fields answer) ≡ true
@@ -69,8 +69,8 @@ fields_bytes (Step (Returned many)) = with16 many [] no_bytes
 fields_bytes (Step (Granted tries)) = with32 tries [] no_bytes
 fields_bytes (Step (Stale word tries)) = with16 word (bytes32 tries) (with32 tries [] no_bytes)
 fields_bytes (Step (Seen values)) = bytes_of64 (values_shown values)
-fields_bytes (Look (Value value)) = with64 value [] no_bytes
-fields_bytes (Look Held) = no_bytes
+fields_bytes (Look (Some value)) = with64 value [] no_bytes
+fields_bytes (Look None) = no_bytes
 fields_bytes (Refused number) = with16 number [] no_bytes
 
 pub answer_frames_sound : AnswerFramesSound
@@ -88,8 +88,8 @@ even_fields (Step (Returned many)) = refl
 even_fields (Step (Granted tries)) = refl
 even_fields (Step (Stale word tries)) = refl
 even_fields (Step (Seen values)) = omega (arith, length_fields64 (values_shown values))
-even_fields (Look (Value value)) = refl
-even_fields (Look Held) = refl
+even_fields (Look (Some value)) = refl
+even_fields (Look None) = refl
 even_fields (Refused number) = refl
 
 pub answer_frames_even : (answer : Answer) → length (answer_frame answer) % 2 ≡ 0

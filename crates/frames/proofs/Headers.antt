@@ -12,7 +12,7 @@ use lib.ListN.{length, length-drop}
 use Rattle.words.specs.Tests.{all_hold, some_holds, within}
 use Rattle.words.specs.Words.{most_named}
 use Rattle.words.proofs.Tests.{split, join, next_test, failed_test, last_test}
-use Rattle.frames.specs.declared.Header.TheVariants as Header
+use Rattle.std.specs.Prelude.{Result, Ok, Err}
 use Rattle.frames.specs.Request.{Open, Step, Look, View}
 use Rattle.frames.specs.Numbers.{Bytes, number16}
 use Rattle.frames.specs.Requests.{length_field, kind_field, head_bytes, part_after_kind, add_kind, correct_kind, strike_kind, move_kind, step_kind, look_kind, view_kind, add_minutes_kind, correct_minutes_kind, edit_kinds, kinds, has_row, length_of_kind, is_edit_kind, is_kind, length_of_view, length_fits, team_in, view_words_in, edit_of_kind, request_of_kind}
@@ -83,19 +83,19 @@ due_fits kind length due some =
     fits_other kind length (λ view. let none : length ≡ 0 = due ∙ ap length_of_kind view in omega (arith, none)) ∙ eq-eqb length (length_of_kind kind) due
 
 -- The first that applies, or the kind.
-pub header_torn : (frame : Bytes) → frame_torn frame ≡ true → Header.Refused 3 ≡ header_of frame
+pub header_torn : (frame : Bytes) → frame_torn frame ≡ true → Err 3 ≡ header_of frame
 unfolding header_of
 header_torn frame torn = simp torn
 
-pub header_unknown : (frame : Bytes) → frame_torn frame ≡ false → kind_unknown frame ≡ true → Header.Refused 4 ≡ header_of frame
+pub header_unknown : (frame : Bytes) → frame_torn frame ≡ false → kind_unknown frame ≡ true → Err 4 ≡ header_of frame
 unfolding header_of
 header_unknown frame torn unknown = simp (torn, unknown)
 
-pub header_wrong : (frame : Bytes) → frame_torn frame ≡ false → kind_unknown frame ≡ false → length_wrong frame ≡ true → Header.Refused 5 ≡ header_of frame
+pub header_wrong : (frame : Bytes) → frame_torn frame ≡ false → kind_unknown frame ≡ false → length_wrong frame ≡ true → Err 5 ≡ header_of frame
 unfolding header_of
 header_wrong frame torn unknown wrong = simp (torn, unknown, wrong)
 
-pub header_kind : (frame : Bytes) → frame_torn frame ≡ false → kind_unknown frame ≡ false → length_wrong frame ≡ false → Header.Kind (kind_field frame) ≡ header_of frame
+pub header_kind : (frame : Bytes) → frame_torn frame ≡ false → kind_unknown frame ≡ false → length_wrong frame ≡ false → Ok (kind_field frame) ≡ header_of frame
 unfolding header_of
 header_kind frame torn unknown wrong = simp (torn, unknown, wrong)
 
@@ -147,36 +147,25 @@ module _ {frame : Bytes} {length_field_lem kind : ℕ} (read : Untorn frame leng
   known_read : is_kind kind ≡ true → kind_unknown frame ≡ false
   known_read known = ap (λ (k : ℕ). not (is_kind k)) (sym read.is_kind_lem) ∙ ap not known
 
-  header_fits : is_kind kind ≡ true → length_fits kind length_field_lem ≡ true → (Header.Kind kind ≡ header_of frame) × Whole frame kind
+  pub header_fits : is_kind kind ≡ true → length_fits kind length_field_lem ≡ true → (Ok kind ≡ header_of frame) × Whole frame kind
   header_fits known fits = (
-    ap Header.Kind read.is_kind_lem ∙ header_kind frame whole_count (known_read known) (length_due frame (as_read ∙ fits)),
+    ap Ok read.is_kind_lem ∙ header_kind frame whole_count (known_read known) (length_due frame (as_read ∙ fits)),
     whole frame length_field_lem kind known read.head read.counted fits,
   )
 
-  pub header_due : length_field_lem ≡ length_of_kind kind → (Header.Kind kind ≡ header_of frame) × Whole frame kind
+  pub header_due : length_field_lem ≡ length_of_kind kind → (Ok kind ≡ header_of frame) × Whole frame kind
   header_due due =
       let some : 0 < length_field_lem = omega (arith, read.head, read.counted) in
       header_fits (due_known kind (λ none. omega (arith, some, due ∙ none))) (due_fits kind length_field_lem due some)
 
-  header_misfits : is_kind kind ≡ true → length_fits kind length_field_lem ≡ false → Header.Refused 5 ≡ header_of frame
+  pub header_misfits : is_kind kind ≡ true → length_fits kind length_field_lem ≡ false → Err 5 ≡ header_of frame
   header_misfits known misfits = header_wrong frame whole_count (known_read known) (other_length frame (as_read ∙ misfits))
 
-  -- A view's length varies.
-  pub header_view : kind ≡ view_kind → length_fits view_kind length_field_lem ≡ true → (Header.Kind kind ≡ header_of frame) × Whole frame kind
-  header_view view fits = header_fits (ap is_kind view ∙ view_known) (ap (λ (k : ℕ). length_fits k length_field_lem) view ∙ fits)
-
-  pub header_no_view : kind ≡ view_kind → length_fits view_kind length_field_lem ≡ false → Header.Refused 5 ≡ header_of frame
-  header_no_view view misfits = header_misfits (ap is_kind view ∙ view_known) (ap (λ (k : ℕ). length_fits k length_field_lem) view ∙ misfits)
-
-  pub header_other : (kind ≡ view_kind → ⊥) → (length_field_lem ≡ length_of_kind kind → ⊥) → (length_of_kind kind ≡ 0 → ⊥) → Header.Refused 5 ≡ header_of frame
-  header_other no_view other some = header_misfits (due_known kind some) (fits_other kind length_field_lem no_view ∙ ne_eqb length_field_lem (length_of_kind kind) other)
-
-  pub header_no_kind : (kind ≡ view_kind → ⊥) → length_of_kind kind ≡ 0 → Header.Refused 4 ≡ header_of frame
-  header_no_kind no_view none =
-      header_unknown frame whole_count (kind_unknown_lem frame (ap length_of_kind (sym read.is_kind_lem) ∙ none) (λ view. no_view (read.is_kind_lem ∙ view)))
+  pub header_no_kind : is_kind kind ≡ false → Err 4 ≡ header_of frame
+  header_no_kind none = header_unknown frame whole_count (ap (λ (k : ℕ). not (is_kind k)) (sym read.is_kind_lem) ∙ ap not none)
 
 -- A step's frame is whole, and its kind is a step's.
-pub step_header : (frame : Bytes) → is_step frame ≡ true → (Header.Kind step_kind ≡ header_of frame) × Whole frame step_kind
+pub step_header : (frame : Bytes) → is_step frame ≡ true → (Ok step_kind ≡ header_of frame) × Whole frame step_kind
 step_header frame step =
     let (bytes, (long, (kind, u))) = split (eqb (length frame) (length_of_kind step_kind + 2) ∷ eqb (length_field frame) (length_of_kind step_kind) ∷ eqb (kind_field frame) step_kind ∷ []) step in
     let bytes : length frame ≡ 6 = eqb-true _ _ bytes in
@@ -232,25 +221,25 @@ move_left kind edit a b c d e = elim (ℕ_discrete kind move_kind) [
 ]
 
 -- What a known kind and a refusal say of the tests.
-pub kind_tests : (frame : Bytes) (kind : ℕ) → header_of frame ≡ Header.Kind kind → (frame_torn frame ≡ false) × (kind_unknown frame ≡ false) × (length_wrong frame ≡ false) × (kind_field frame ≡ kind)
+pub kind_tests : (frame : Bytes) (kind : ℕ) → header_of frame ≡ Ok kind → (frame_torn frame ≡ false) × (kind_unknown frame ≡ false) × (length_wrong frame ≡ false) × (kind_field frame ≡ kind)
 unfolding header_of
 kind_tests frame kind e = by (frame_torn frame) (kind_unknown frame) (length_wrong frame) e
   where
-    by : (torn unknown wrong : Bool) → cond torn (Header.Refused 3) (cond unknown (Header.Refused 4) (cond wrong (Header.Refused 5) (Header.Kind (kind_field frame)))) ≡ Header.Kind kind
+    by : (torn unknown wrong : Bool) → cond {A = Result ℕ ℕ} torn (Err 3) (cond unknown (Err 4) (cond wrong (Err 5) (Ok (kind_field frame)))) ≡ Ok kind
         → (torn ≡ false) × (unknown ≡ false) × (wrong ≡ false) × (kind_field frame ≡ kind)
     by true unknown wrong e = (cc, cc, cc, cc)
     by false true wrong e = (cc, cc, cc, cc)
     by false false true e = (cc, cc, cc, cc)
     by false false false e = (refl, refl, refl, cc)
 
-pub refused_tests : (frame : Bytes) (number : ℕ) → header_of frame ≡ Header.Refused number
+pub refused_tests : (frame : Bytes) (number : ℕ) → header_of frame ≡ Err number
     → ((frame_torn frame ≡ true) × (number ≡ 3))
     ⊎ (((frame_torn frame ≡ false) × (kind_unknown frame ≡ true) × (number ≡ 4))
     ⊎ ((frame_torn frame ≡ false) × (kind_unknown frame ≡ false) × (length_wrong frame ≡ true) × (number ≡ 5)))
 unfolding header_of
 refused_tests frame number e = by (frame_torn frame) (kind_unknown frame) (length_wrong frame) e
   where
-    by : (torn unknown wrong : Bool) → cond torn (Header.Refused 3) (cond unknown (Header.Refused 4) (cond wrong (Header.Refused 5) (Header.Kind (kind_field frame)))) ≡ Header.Refused number
+    by : (torn unknown wrong : Bool) → cond {A = Result ℕ ℕ} torn (Err 3) (cond unknown (Err 4) (cond wrong (Err 5) (Ok (kind_field frame)))) ≡ Err number
         → ((torn ≡ true) × (number ≡ 3)) ⊎ (((torn ≡ false) × (unknown ≡ true) × (number ≡ 4)) ⊎ ((torn ≡ false) × (unknown ≡ false) × (wrong ≡ true) × (number ≡ 5)))
     by true unknown wrong e = inl (refl, cc)
     by false true wrong e = inr (inl (refl, refl, cc))

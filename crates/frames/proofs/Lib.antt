@@ -7,3 +7,4 @@ pub mod ReadsBack
 pub mod Asked
 pub mod Fitting
 pub mod Examples
+pub mod ReadKinds

@@ -1,30 +1,14 @@
 -- Bytes put one after the other at the front of an output are the frame, and what stood behind it stays.
-use Prim.Native.Nat.{ℕ, suc, ◌+◌, ◌*◌, ◌/◌, ◌%◌, ◌<◌, ◌≤◌, min}
+use Prim.Native.Nat.{ℕ, suc, ◌+◌, ◌*◌, ◌<◌, ◌≤◌}
 use mathlib.Core.Path.{◌≡◌, refl, sym, ap, ◌∙◌}
 use mathlib.Core.List.{List, [], ◌∷◌, ◌++◌}
 use native.Mathlib.Omega.{arith}
 use native.Mathlib.Numerals.{add-one}
-use native.Mathlib.Decide.{dec_lt}
 use lib.ListN.{length, get_or, take, drop, set}
-use lib.Seq.{sets, sets-eq, take-suc, take_all, length-take-le}
-use Rattle.frames.specs.Numbers.{Bytes, bytes16, bytes32, bytes64, fields64}
+use lib.Seq.{sets, sets-eq, take-suc, length-take-le}
+use Rattle.frames.specs.Numbers.{Bytes, bytes16, bytes64, fields64}
 use Rattle.frames.specs.Answers.{frame_of, written}
-use Rattle.frames.proofs.Bytes.{half16, half32, length_fields64}
-
--- The two halves of a number, put one after the other.
-pub halves32 : (out half last : Bytes) (at x : ℕ) → half ≡ sets out at (bytes16 (x % 65536)) → last ≡ sets half (at + 2) (bytes16 (x / 65536)) → last ≡ sets out at (bytes32 x)
-halves32 out half last at x first second =
-    let there : at + 2 ≡ suc (suc at) = omega arith in
-    second
-    ∙ ap (λ (k : ℕ). sets half k (bytes16 (x / 65536))) there
-    ∙ ap (λ (bytes : Bytes). sets bytes (suc (suc at)) (bytes16 (x / 65536))) (first ∙ ap (λ (bytes : Bytes). sets out at bytes) (half16 x))
-
-pub halves64 : (out half last : Bytes) (at x : ℕ) → half ≡ sets out at (bytes32 (x % 4294967296)) → last ≡ sets half (at + 4) (bytes32 (x / 4294967296)) → last ≡ sets out at (bytes64 x)
-halves64 out half last at x first second =
-    let there : at + 4 ≡ suc (suc (suc (suc at))) = omega arith in
-    second
-    ∙ ap (λ (k : ℕ). sets half k (bytes32 (x / 4294967296))) there
-    ∙ ap (λ (bytes : Bytes). sets bytes (suc (suc (suc (suc at)))) (bytes32 (x / 4294967296))) (first ∙ ap (λ (bytes : Bytes). sets out at bytes) (half32 x))
+use Rattle.frames.proofs.Bytes.{length_fields64}
 
 -- Bytes put from the front on, with the count of them, are written.
 pub all_written_lem : (out last bytes : Bytes) (count : ℕ) → count ≡ length bytes → last ≡ sets out 0 bytes → length bytes ≤ length out → (count, last) ≡ written out bytes
@@ -62,23 +46,14 @@ next_put out last next values at k inside before put =
     ∙ ap (λ (bytes : Bytes). sets out at bytes) (sym more)
 
 -- All of them, behind the length and the kind.
-pub values_written : (out head last : Bytes) (values : List ℕ) (n kind count : ℕ) → n ≤ length values → 4 + 8 * n ≤ length out
-    → count ≡ 4 + 8 * n
-    → head ≡ sets out 0 (bytes16 (2 + 8 * n) ++ bytes16 kind)
-    → last ≡ sets head 4 (fields64 (take n values))
-    → (count, last) ≡ written out (frame_of kind (fields64 (take n values)))
-values_written out head last values n kind count inside room many first rest =
-    let fields = fields64 (take n values) in
-    let long : length fields ≡ 8 * n = omega (arith, length_fields64 (take n values), length-take-le n values inside) in
+pub values_written : (out head last : Bytes) (values : List ℕ) (kind count : ℕ) → 4 + 8 * length values ≤ length out
+    → count ≡ 4 + 8 * length values
+    → head ≡ sets out 0 (bytes16 (2 + 8 * length values) ++ bytes16 kind)
+    → last ≡ sets head 4 (fields64 values)
+    → (count, last) ≡ written out (frame_of kind (fields64 values))
+values_written out head last values kind count room many first rest =
+    let fields = fields64 values in
+    let long : length fields ≡ 8 * length values = length_fields64 values in
     all_written_lem out last (frame_of kind fields) count (omega arith)
     (rest ∙ ap (λ (bytes : Bytes). sets bytes 4 fields) (first ∙ ap (λ (k : ℕ). sets out 0 (bytes16 (2 + k) ++ bytes16 kind)) (sym long)))
     (omega arith)
-
--- No more can be taken than there are.
-pub take_least : (n : ℕ) (values : List ℕ) → take (min n (length values)) values ≡ take n values
-take_least n values = elim (dec_lt n (length values)) [
-  | yes p ↦
-      let least : min n (length values) ≡ n = omega arith in
-      ap (λ (k : ℕ). take k values) least
-  | no p ↦ take_all (min n (length values)) values (omega arith) ∙ sym (take_all n values (omega arith))
-]

@@ -1,5 +1,5 @@
 -- An answer whose fields fit is read back from its frame, and from no other bytes.
-use Prim.Native.Nat.{ℕ, zero, suc, ◌/◌, ◌%◌, ◌≤◌}
+use Prim.Native.Nat.{ℕ, zero, suc, ◌/◌, ◌%◌, ◌≤◌, min}
 use mathlib.Core.Path.{◌≡◌, refl, sym, ap, ap₂, ◌∙◌}
 use mathlib.Core.List.{List, [], ◌∷◌, map}
 use mathlib.Core.Bool.{Bool, true, false, cond, false≢true}
@@ -13,9 +13,10 @@ use Rattle.words.specs.Tests.{all_hold, within}
 use Rattle.words.specs.Words.{most_named}
 use Rattle.words.proofs.Tests.{AllTrue, split, is_false}
 use Rattle.tickets.specs.declared.Values.{Values}
-use Rattle.tickets.specs.Steps.{values_from, values_of}
+use Rattle.tickets.specs.Steps.{values_from}
+use Rattle.tickets.proofs.Room.{in_room_by}
 use Rattle.tickets.specs.declared.StepAnswer.TheVariants.{Claimed, Waiting, Found, Put, Returned, Granted, Stale, Seen}
-use Rattle.tickets.specs.declared.LookAnswer.TheVariants.{Value, Held}
+use Rattle.std.specs.Prelude.{None, Some}
 use Rattle.frames.specs.declared.Answer.{Answer}
 use Rattle.frames.specs.declared.Answer.TheVariants.{Standing, Step, Look, Refused}
 use Rattle.frames.specs.Numbers.{Bytes, number16, number32, number64, numbers64, fields64, fits64}
@@ -78,20 +79,16 @@ shown_back n numbers most fit =
 values_back : (seen : Values) → values_fit seen ≡ true → values_in (fields64 (values_shown seen)) ≡ seen
 values_back seen h =
     let n = seen.n in
-    let values = values_of seen in
-    let (inside, (fit, (behind, u))) = split (within 1 most_named n ∷ all_hold (map fits64 values) ∷ all_zero (drop n values) ∷ []) h in
+    let values = seen.values in
+    let (inside, (long, (fit, (behind, u)))) = split (within 1 most_named n ∷ eqb (length values) most_named ∷ all_hold (map fits64 values) ∷ all_zero (drop n values) ∷ []) h in
     let (least, (most, v)) = split (leb 1 n ∷ leb n most_named ∷ []) inside in
+    let many : n ≤ most_named = leb-true n most_named most in
+    let six : length values ≡ most_named = eqb-true (length values) most_named long in
     let zeros = split (map (eqb 0) (drop n values)) behind in
-    shown_back n values (leb-true n most_named most) (split (map fits64 values) fit)
-    ∙ (λ i. record {
-      n = n;
-      first = zeros_behind n 0 values zeros i;
-      second = zeros_behind n 1 values zeros i;
-      third = zeros_behind n 2 values zeros i;
-      fourth = zeros_behind n 3 values zeros i;
-      fifth = zeros_behind n 4 values zeros i;
-      sixth = zeros_behind n 5 values zeros i;
-    })
+    let all : min n most_named ≡ n = omega arith in
+    ap (λ (k : ℕ). values_in (fields64 (take k values))) all
+    ∙ shown_back n values (omega arith) (split (map fits64 values) fit)
+    ∙ (λ i. record { n = n; values = sym (in_room_by (take n values) values six (λ k below. sym (zeros_behind n k values zeros))) i })
 
 abbrev is_some : Option Answer → Bool
 is_some none = false
@@ -155,12 +152,12 @@ answers_read_back (Step (Seen values)) h =
     (passed seen (Step (Granted (number32 part 0))) (after 7) refl
     (passed seen (Step (Stale (number16 part 0) (number32 part 2))) (after 8) refl
     (found seen (Step (Seen (values_in part))) (after 9) (ap (λ (x : Values). Step (Seen x)) (values_back values h))))))))))
-answers_read_back (Look (Value value)) h =
-    let part = answer_fields (Look (Value value)) in
-    found (Look (Value value)) (Look (Value (number64 part 0))) (drop 10 (answers_with part)) (ap (λ (x : ℕ). Look (Value x)) (back64 value (ltb-true _ _ h)))
-answers_read_back (Look Held) h =
-    let part = answer_fields (Look Held) in
-    found (Look Held) (Look Held) (drop 11 (answers_with part)) refl
+answers_read_back (Look (Some value)) h =
+    let part = answer_fields (Look (Some value)) in
+    found (Look (Some value)) (Look (Some (number64 part 0))) (drop 10 (answers_with part)) (ap (λ (x : ℕ). Look (Some x)) (back64 value (ltb-true _ _ h)))
+answers_read_back (Look None) h =
+    let part = answer_fields (Look None) in
+    found (Look None) (Look None) (drop 11 (answers_with part)) refl
 answers_read_back (Refused number) h =
     let part = answer_fields (Refused number) in
     found (Refused number) (Refused (number16 part 0)) (drop 12 (answers_with part)) (ap Refused (back16 number (ltb-true _ _ h)))

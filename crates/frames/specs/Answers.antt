@@ -1,12 +1,10 @@
 -- "Answers": the number and the fields of each, and where they are written.
-use Rattle.std.specs.Prelude.{ℕ, ◌+◌, ◌*◌, ◌-◌, ◌≤◌, ◌≡◌, List, [], ◌++◌, true, length, take, drop}
+use Rattle.std.specs.Prelude.{ℕ, ◌+◌, ◌*◌, ◌-◌, ◌≤◌, min, ◌≡◌, List, [], ◌++◌, true, length, take, drop, None, Some}
 use Rattle.words.specs.Words.{most_named}
 use Rattle.tickets.specs.declared.Values.{Values}
-use Rattle.tickets.specs.Steps.{values_of}
+use Rattle.tickets.specs.Steps.{Looked}
 use Rattle.tickets.specs.declared.StepAnswer.{StepAnswer}
 use Rattle.tickets.specs.declared.StepAnswer.TheVariants.{Claimed, Waiting, Found, Put, Returned, Granted, Stale, Seen}
-use Rattle.tickets.specs.declared.LookAnswer.{LookAnswer}
-use Rattle.tickets.specs.declared.LookAnswer.TheVariants.{Value, Held}
 use Rattle.frames.specs.declared.Answer.{Answer}
 use Rattle.frames.specs.declared.Answer.TheVariants.{Standing, Step, Look, Refused}
 use Rattle.frames.specs.Numbers.{Bytes, are_bytes, bytes16, bytes32, bytes64, fields64}
@@ -27,9 +25,9 @@ step_answer_kind (Granted tries) = 134
 step_answer_kind (Stale word tries) = 135
 step_answer_kind (Seen values) = 139
 
-abbrev pub look_answer_kind : LookAnswer → ℕ
-look_answer_kind (Value value) = 136
-look_answer_kind Held = 137
+abbrev pub look_answer_kind : Looked → ℕ
+look_answer_kind (Some value) = 136
+look_answer_kind None = 137
 
 abbrev pub answer_kind : Answer → ℕ
 answer_kind (Standing n) = 128
@@ -39,7 +37,7 @@ answer_kind (Refused number) = 138
 
 -- The values that a view shows: its first n; there are six at most.
 abbrev pub values_shown : Values → List ℕ
-values_shown seen = take seen.n (values_of seen)
+values_shown seen = take (min seen.n most_named) seen.values
 
 -- The fields of each: 16 bits, but tries 32 and a value 64.
 abbrev pub step_answer_fields : StepAnswer → Bytes
@@ -52,9 +50,9 @@ step_answer_fields (Granted tries) = bytes32 tries
 step_answer_fields (Stale word tries) = bytes16 word ++ bytes32 tries
 step_answer_fields (Seen values) = fields64 (values_shown values)
 
-abbrev pub look_answer_fields : LookAnswer → Bytes
-look_answer_fields (Value value) = bytes64 value
-look_answer_fields Held = []
+abbrev pub look_answer_fields : Looked → Bytes
+look_answer_fields (Some value) = bytes64 value
+look_answer_fields None = []
 
 abbrev pub answer_fields : Answer → Bytes
 answer_fields (Standing n) = bytes16 n

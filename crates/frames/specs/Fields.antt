@@ -1,24 +1,17 @@
 -- "Frames refused": what 3, 4, 5, 10 and 11 test, on the frame and on its fields, and what the reader answers.
-use Rattle.std.specs.Prelude.{ℕ, ◌+◌, ◌*◌, ◌-◌, ◌≤◌, ◌≡◌, List, [], ◌∷◌, Bool, true, false, not, cond, length, eqb, ltb, ℤ}
+use Rattle.std.specs.Prelude.{ℕ, ◌+◌, ◌*◌, ◌-◌, ◌≤◌, ◌≡◌, List, [], ◌∷◌, Bool, true, false, not, cond, length, eqb, ltb, ℤ, Option, Some, None, Result, Ok, Err}
 use Rattle.words.specs.Tests.{all_hold, some_holds}
 use Rattle.words.specs.Words.{words_in_book, most_named}
 use Rattle.legs.specs.declared.Measure.{Measure}
 use Rattle.legs.specs.Legs.{clino_in_range, measure_in_range}
 use Rattle.legs.specs.Minutes.{Minutes, hundredths_of, signed_by, compass_angle_in_range, clino_angle_in_range, angles_in_range, rounded}
 use Rattle.edits.specs.declared.Edit.{Edit}
+use Rattle.edits.specs.declared.View.{View}
 use Rattle.edits.specs.Ranges.{leg_number_in_range, leg_or_none_in_range, count_before_strike_in_range, edit_in_range, edit_repeats}
 use Rattle.edits.specs.Views.{view_in_range, view_repeats, view_of}
-use Rattle.frames.specs.Request.{Request, Open, Step, Look, View}
-use Rattle.frames.specs.declared.Header.{Header}
-use Rattle.frames.specs.declared.Field.{Field}
-use Rattle.frames.specs.declared.LongField.{LongField}
-use Rattle.frames.specs.declared.SignedField.{SignedField}
-use Rattle.frames.specs.declared.MeasureField.{MeasureField}
+use Rattle.frames.specs.Request.{Request, Open, Step, Look}
+use Rattle.frames.specs.Request as Request
 use Rattle.frames.specs.declared.Taken.{Taken}
-use Rattle.frames.specs.declared.TakenField.{TakenField}
-use Rattle.frames.specs.declared.EditRead.{EditRead}
-use Rattle.frames.specs.declared.Reading.{Reading}
-use Rattle.frames.specs.declared.ViewRead.{ViewRead}
 use Rattle.frames.specs.Numbers.{Bytes}
 use Rattle.frames.specs.Requests.{length_field, kind_field, head_bytes, part_after_kind, step_kind, view_kind, length_of_kind, is_kind, length_fits, measure_at, minutes_at, add_with, correct_with, edit_of_kind, angles_of_kind}
 
@@ -47,13 +40,13 @@ is_step frame =
     ∷ eqb (kind_field frame) step_kind
     ∷ [])
 
--- The first of these three that applies, or else the kind.
-unfoldable pub header_of : Bytes → Header
+-- The number of the first of these three that applies, or else the kind.
+unfoldable pub header_of : Bytes → Result ℕ ℕ
 header_of frame =
-    cond (frame_torn frame) (Header.Refused 3)
-    (cond (kind_unknown frame) (Header.Refused 4)
-    (cond (length_wrong frame) (Header.Refused 5)
-    (Header.Kind (kind_field frame))))
+    cond (frame_torn frame) (Err 3)
+    (cond (kind_unknown frame) (Err 4)
+    (cond (length_wrong frame) (Err 5)
+    (Ok (kind_field frame))))
 
 -- The part after the kind has the length that the kind asks for: a view's has room for team, n and one to six words.
 pub record ViewFields (part : Bytes) : Type 0 where
@@ -71,9 +64,9 @@ pub record Whole (frame : Bytes) (kind : ℕ) : Type 0 where
   pub head : head_bytes ≤ length frame
   pub fields : FieldsOf kind (part_after_kind frame)
 
-abbrev pub WholeIfKnown : Bytes → Header → Type 0
-WholeIfKnown frame (Header.Kind kind) = Whole frame kind
-WholeIfKnown frame (Header.Refused number) = Unit {0}
+abbrev pub WholeIfKnown : {E : Type 0} → Bytes → Result ℕ E → Type 0
+WholeIfKnown frame (Ok kind) = Whole frame kind
+WholeIfKnown frame (Err refusal) = Unit {0}
 
 -- 10. A field is out of range: one of an angle in minutes as it is sent, or one of what is asked for.
 abbrev pub angle_out_of_range : Bytes → Bool
@@ -83,7 +76,7 @@ abbrev pub request_out_of_range : Request → Bool
 request_out_of_range (Open team edit) = not (edit_in_range edit)
 request_out_of_range (Step team) = false
 request_out_of_range (Look word) = not (ltb word words_in_book)
-request_out_of_range (View team n words) = not (view_in_range n words)
+request_out_of_range (Request.View team n words) = not (view_in_range n words)
 
 abbrev pub field_out_of_range : Bytes → Request → Bool
 field_out_of_range frame request = some_holds (angle_out_of_range frame ∷ request_out_of_range request ∷ [])
@@ -93,34 +86,30 @@ abbrev pub field_repeated : Request → Bool
 field_repeated (Open team edit) = edit_repeats edit
 field_repeated (Step team) = false
 field_repeated (Look word) = false
-field_repeated (View team n words) = view_repeats words
+field_repeated (Request.View team n words) = view_repeats words
 
--- A field's answer: in range with its value, or out of range. For fields of 16 bits, the distance, the clino, and M.
-abbrev pub field_of : Bool → ℕ → Field
-field_of in_range value = cond in_range (Field.InRange value) Field.OutOfRange
+-- A field's answer: its value where it is in range, and none where it is out of range. For fields of 16 bits, the distance, the clino, M, and f r s c.
+abbrev pub field_of : {A : Type 0} → Bool → A → Option A
+field_of in_range value = cond in_range (Some value) None
 
-abbrev pub long_field_of : Bool → ℕ → LongField
-long_field_of in_range value = cond in_range (LongField.InRange value) LongField.OutOfRange
+abbrev pub clino_field_of : ℤ → Option ℤ
+clino_field_of clino = field_of (clino_in_range clino) clino
 
-abbrev pub clino_field_of : ℤ → SignedField
-clino_field_of clino = cond (clino_in_range clino) (SignedField.InRange clino) SignedField.OutOfRange
-
-abbrev pub measure_field_of : Measure → MeasureField
-measure_field_of measure = cond (measure_in_range measure) (MeasureField.InRange measure) MeasureField.OutOfRange
+abbrev pub measure_field_of : Measure → Option Measure
+measure_field_of measure = field_of (measure_in_range measure) measure
 
 -- Of an angle in minutes: the compass, with its value in hundredths; the clino likewise; and M.
-abbrev pub compass_minutes_field_of : ℕ → ℕ → Field
+abbrev pub compass_minutes_field_of : ℕ → ℕ → Option ℕ
 compass_minutes_field_of degrees minutes = field_of (compass_angle_in_range degrees minutes) (hundredths_of degrees minutes)
 
-abbrev pub clino_minutes_field_of : ℕ → ℕ → ℕ → SignedField
-clino_minutes_field_of sign degrees minutes =
-    cond (clino_angle_in_range sign degrees minutes) (SignedField.InRange (signed_by sign (hundredths_of degrees minutes))) SignedField.OutOfRange
+abbrev pub clino_minutes_field_of : ℕ → ℕ → ℕ → Option ℤ
+clino_minutes_field_of sign degrees minutes = field_of (clino_angle_in_range sign degrees minutes) (signed_by sign (hundredths_of degrees minutes))
 
 -- M is out of range where its angles are, whatever they are rounded to.
-abbrev pub measure_field_if : Bool → Measure → MeasureField
-measure_field_if angles measure = cond angles (measure_field_of measure) MeasureField.OutOfRange
+abbrev pub measure_field_if : Bool → Measure → Option Measure
+measure_field_if angles measure = cond angles (measure_field_of measure) None
 
-abbrev pub minutes_field_of : Minutes → MeasureField
+abbrev pub minutes_field_of : Minutes → Option Measure
 minutes_field_of minutes = measure_field_if (angles_in_range minutes) (rounded minutes)
 
 -- M in minutes or in hundredths: how many bytes it has, what it is read as, whether its angles are in range as they are sent, and its answer.
@@ -133,7 +122,7 @@ measure_read_at minutes part at = cond minutes (rounded (minutes_at part at)) (m
 abbrev pub angles_fit_at : Bool → Bytes → ℕ → Bool
 angles_fit_at minutes part at = cond minutes (angles_in_range (minutes_at part at)) true
 
-abbrev pub measure_field_at : Bool → Bytes → ℕ → MeasureField
+abbrev pub measure_field_at : Bool → Bytes → ℕ → Option Measure
 measure_field_at minutes part at = measure_field_if (angles_fit_at minutes part at) (measure_read_at minutes part at)
 
 -- f, r, s and c, where a leg is taken out of its passage's list.
@@ -147,36 +136,32 @@ taken_in_range taken =
     ∷ []
     )
 
-abbrev pub taken_field_of : Taken → TakenField
-taken_field_of taken = cond (taken_in_range taken) (TakenField.InRange taken) TakenField.OutOfRange
+abbrev pub taken_field_of : Taken → Option Taken
+taken_field_of taken = field_of (taken_in_range taken) taken
 
 -- What an edit's own fields, in hundredths, are read as: refused by 10 where one is out of range, then by 11, or else the edit.
-unfoldable pub edit_read : Edit → EditRead
-edit_read edit = cond (edit_in_range edit) (cond (edit_repeats edit) (EditRead.Refused 11) (EditRead.Is edit)) (EditRead.Refused 10)
+unfoldable pub edit_read : Edit → Result Edit ℕ
+edit_read edit = cond (edit_in_range edit) (cond (edit_repeats edit) (Err 11) (Ok edit)) (Err 10)
 
 -- Angles in minutes are tested as they are sent.
-abbrev pub read_if : Bool → Edit → EditRead
-read_if angles edit = cond angles (edit_read edit) (EditRead.Refused 10)
+abbrev pub read_if : Bool → Edit → Result Edit ℕ
+read_if angles edit = cond angles (edit_read edit) (Err 10)
 
 -- What the part after an edit's kind is read as: `edit_read` of its edit, once its angles in minutes have been tested;
-unfoldable pub read_edit : ℕ → Bytes → EditRead
+unfoldable pub read_edit : ℕ → Bytes → Result Edit ℕ
 read_edit kind part = read_if (angles_of_kind kind part) (edit_of_kind kind part)
 
 -- of Add and of Correct, in minutes or in hundredths.
-unfoldable pub add_read : Bool → Bytes → EditRead
+unfoldable pub add_read : Bool → Bytes → Result Edit ℕ
 add_read minutes part = read_if (angles_fit_at minutes part 14) (Edit.Add (add_with (measure_read_at minutes part 14) part))
 
-unfoldable pub correct_read : Bool → Bytes → EditRead
+unfoldable pub correct_read : Bool → Bytes → Result Edit ℕ
 correct_read minutes part =
     let second = 10 + measure_size minutes in
     read_if
     (all_hold (angles_fit_at minutes part 10 ∷ angles_fit_at minutes part second ∷ []))
     (Edit.Correct (correct_with (measure_read_at minutes part 10) (measure_read_at minutes part second) part))
 
--- A view read, or a refusal, with no words.
-abbrev pub read_as : Reading → List ℕ → ViewRead
-read_as reading words = record { reading = reading; view = view_of words }
-
 -- What the fields of a view are read as, likewise.
-unfoldable pub view_read : ℕ → List ℕ → ViewRead
-view_read n words = cond (view_in_range n words) (cond (view_repeats words) (read_as (Reading.Refused 11) []) (read_as Reading.Is words)) (read_as (Reading.Refused 10) [])
+unfoldable pub view_read : ℕ → List ℕ → Result View ℕ
+view_read n words = cond (view_in_range n words) (cond (view_repeats words) (Err 11) (Ok (view_of words))) (Err 10)

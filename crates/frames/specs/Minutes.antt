@@ -5,7 +5,7 @@ use Rattle.legs.specs.declared.Stations.{Stations}
 use Rattle.legs.specs.Minutes.{Minutes, angles_in_range, rounded}
 use Rattle.edits.specs.declared.Edit.{Edit}
 use Rattle.frames.specs.Request.{Open}
-use Rattle.frames.specs.declared.Header.TheVariants.{Kind}
+use Rattle.std.specs.Prelude.{Ok}
 use Rattle.frames.specs.Numbers.{Bytes, are_bytes, bytes32, fits16, fits32}
 use Rattle.frames.specs.Requests.{kind_field, part_after_kind, add_minutes_kind, correct_minutes_kind, angles_of_kind, request_in}
 use Rattle.frames.specs.Answers.{frame_of}
@@ -82,4 +82,4 @@ EditsReadFit =
 
 -- Statement: refusals 3, 4 and 5 never apply to such a frame.
 abbrev pub MinutesFramesWhole : Type 0
-MinutesFramesWhole = (team : ℕ) (edit : MinutesEdit) → header_of (minutes_frame team edit) ≡ Kind (minutes_kind edit)
+MinutesFramesWhole = (team : ℕ) (edit : MinutesEdit) → header_of (minutes_frame team edit) ≡ Ok (minutes_kind edit)

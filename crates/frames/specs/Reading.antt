@@ -1,14 +1,12 @@
 -- An answer read back from its bytes: hearing the bytes is hearing the answer.
-use Rattle.std.specs.Prelude.{ℕ, ◌/◌, ◌≡◌, List, [], ◌∷◌, map, Bool, true, false, cond, eqb, length, drop}
+use Rattle.std.specs.Prelude.{ℕ, ◌/◌, ◌≡◌, List, [], ◌∷◌, map, Bool, true, false, cond, None, Some, eqb, length, drop}
 use Rattle.std.proofs.Math.Option.{Option, none, some}
 use Rattle.words.specs.Tests.{all_hold, within}
 use Rattle.words.specs.Words.{most_named}
 use Rattle.tickets.specs.declared.Values.{Values}
-use Rattle.tickets.specs.Steps.{values_of, values_from}
+use Rattle.tickets.specs.Steps.{values_from, Looked}
 use Rattle.tickets.specs.declared.StepAnswer.{StepAnswer}
 use Rattle.tickets.specs.declared.StepAnswer.TheVariants.{Claimed, Waiting, Found, Put, Returned, Granted, Stale, Seen}
-use Rattle.tickets.specs.declared.LookAnswer.{LookAnswer}
-use Rattle.tickets.specs.declared.LookAnswer.TheVariants.{Value, Held}
 use Rattle.frames.specs.declared.Answer.{Answer}
 use Rattle.frames.specs.declared.Answer.TheVariants.{Standing, Step, Look, Refused}
 use Rattle.frames.specs.Numbers.{Bytes, number16, number32, number64, numbers64, fits16, fits32, fits64}
@@ -31,8 +29,8 @@ answers_with part =
     ∷ Step (Granted (number32 part 0))
     ∷ Step (Stale (number16 part 0) (number32 part 2))
     ∷ Step (Seen (values_in part))
-    ∷ Look (Value (number64 part 0))
-    ∷ Look Held
+    ∷ Look (Some (number64 part 0))
+    ∷ Look None
     ∷ Refused (number16 part 0)
     ∷ []
 
@@ -55,13 +53,14 @@ answer_in bytes = first_framed bytes (answers_with (part_after_kind bytes))
 abbrev pub all_zero : List ℕ → Bool
 all_zero numbers = all_hold (map (eqb 0) numbers)
 
--- One to six values, each with room in its bits; the others are zeros.
+-- One to six values in their room, each with room in its bits; the others are zeros.
 abbrev pub values_fit : Values → Bool
 values_fit seen =
     all_hold (
     within 1 most_named seen.n
-    ∷ all_hold (map fits64 (values_of seen))
-    ∷ all_zero (drop seen.n (values_of seen))
+    ∷ eqb (length seen.values) most_named
+    ∷ all_hold (map fits64 seen.values)
+    ∷ all_zero (drop seen.n seen.values)
     ∷ []
     )
 
@@ -76,9 +75,9 @@ step_answer_fits (Granted tries) = fits32 tries
 step_answer_fits (Stale word tries) = all_hold (fits16 word ∷ fits32 tries ∷ [])
 step_answer_fits (Seen values) = values_fit values
 
-abbrev pub look_answer_fits : LookAnswer → Bool
-look_answer_fits (Value value) = fits64 value
-look_answer_fits Held = true
+abbrev pub look_answer_fits : Looked → Bool
+look_answer_fits (Some value) = fits64 value
+look_answer_fits None = true
 
 abbrev pub answer_fits : Answer → Bool
 answer_fits (Standing n) = fits16 n

@@ -6,7 +6,7 @@ use Rattle.legs.specs.declared.Measure.{Measure}
 use Rattle.edits.specs.declared.Edit.{Edit}
 use Rattle.edits.specs.declared.Edit.TheVariants.{Add, Correct, Strike, Move}
 use Rattle.frames.specs.Request.{Request, Open, Step, Look, View}
-use Rattle.frames.specs.declared.Header.TheVariants.{Kind}
+use Rattle.std.specs.Prelude.{Ok}
 use Rattle.frames.specs.Numbers.{Bytes, bytes16, bytes32, fits16, fits32}
 use Rattle.frames.specs.Requests.{add_kind, correct_kind, strike_kind, move_kind, step_kind, look_kind, view_kind, request_in}
 use Rattle.frames.specs.Answers.{frame_of}
@@ -99,4 +99,4 @@ sized (View team n words) = within 1 most_named (length words)
 
 -- Statement: refusals 3, 4 and 5 never apply to such a frame.
 abbrev pub RequestFramesWhole : Type 0
-RequestFramesWhole = (request : Request) → sized request ≡ true → header_of (request_frame request) ≡ Kind (request_kind request)
+RequestFramesWhole = (request : Request) → sized request ≡ true → header_of (request_frame request) ≡ Ok (request_kind request)

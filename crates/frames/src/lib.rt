@@ -1,53 +1,28 @@
 // Frames: what is read from a frame and what answers it, as types; numbers in bytes, and a frame's head.
 #![tactic(auto)]
 
+ghost use Rattle.std.specs.Prelude.{◌≡◌};
+ghost use Rattle.frames.specs.Requests.{view_kind, is_edit_kind, length_fits};
+ghost use Rattle.frames.specs.Refusals.{refusal_number};
+ghost use Rattle.frames.specs.Kinds.{kind_number, KindRead};
+
 use crate::numbers::Bits;
-use edits::{Edit, View};
-use legs::Measure;
-use tickets::{LookAnswer, StepAnswer};
+use std::error::Error;
+use std::fmt;
+use tickets::StepAnswer;
 use words::Limits;
 
 pub mod numbers; // numbers in bytes, read and put
 pub mod head; // refusals 3 to 5, and the part after the kind
 
+// An answer; that to a look has the word's value, and none where the word is held. A refusal is told like the others, and nothing is
+// left undone by it, so that it is no Result.
 #[derive(Clone, Copy)]
 pub enum Answer {
     Standing(u16),
     Step(StepAnswer),
-    Look(LookAnswer),
+    Look(Option<u64>),
     Refused(u16),
-}
-
-// The kind of a whole frame, or the number of the refusal.
-#[derive(Clone, Copy)]
-pub enum Header {
-    Kind(u16),
-    Refused(u16),
-}
-
-// A field's answer: of 16 bits, of 32, signed, and of the fields that make a measure.
-#[derive(Clone, Copy)]
-pub enum Field {
-    InRange(u16),
-    OutOfRange,
-}
-
-#[derive(Clone, Copy)]
-pub enum LongField {
-    InRange(u32),
-    OutOfRange,
-}
-
-#[derive(Clone, Copy)]
-pub enum SignedField {
-    InRange(i16),
-    OutOfRange,
-}
-
-#[derive(Clone, Copy)]
-pub enum MeasureField {
-    InRange(Measure),
-    OutOfRange,
 }
 
 // Of a leg that is taken out of its passage's list: the next newer leg, itself, the next older, and the count of legs.
@@ -57,33 +32,6 @@ pub struct Taken {
     pub leg: u16,
     pub older: u16,
     pub count: u16,
-}
-
-#[derive(Clone, Copy)]
-pub enum TakenField {
-    InRange(Taken),
-    OutOfRange,
-}
-
-// The edit that a frame's fields are, or the number of the refusal.
-#[derive(Clone, Copy)]
-pub enum EditRead {
-    Is(Edit),
-    Refused(u16),
-}
-
-// Whether a frame's fields are a view, or the number of the refusal,
-#[derive(Clone, Copy)]
-pub enum Reading {
-    Is,
-    Refused(u16),
-}
-
-// and the view beside it, which holds an array; a refused one names no words.
-#[derive(Clone, Copy)]
-pub struct ViewRead {
-    pub reading: Reading,
-    pub view: View,
 }
 
 // The size of a frame, in bytes.
@@ -153,71 +101,128 @@ impl Length {
     pub const LOOK: u16 = 2 * Length::FIELD;
 }
 
-// The kinds of what is asked for.
-#[derive(Drop)]
-pub struct Kind {}
+// What a frame asks for, by its kind.
+#[derive(Clone, Copy, Debug, PartialEq, Eq)]
+pub enum Kind {
+    Add,
+    Correct,
+    Strike,
+    Move,
+    Step,
+    Look,
+    View,
+    // Add and Correct, compass and clino in degrees and minutes.
+    AddInMinutes,
+    CorrectInMinutes,
+}
 
 impl Kind {
-    pub const ADD: u16 = 1;
+    // A step's number stands in the number that its frame begins with, too.
+    const STEP: u16 = 5;
 
-    pub const CORRECT: u16 = 2;
+    // Whether it is an edit's.
+    pub fn is_edit(self) -> bool
+        ensures { result ≡ is_edit_kind (kind_number self) }
+    {
+        match self {
+            Kind::Step | Kind::Look | Kind::View => false,
+            _ => true,
+        }
+    }
 
-    pub const STRIKE: u16 = 3;
-
-    pub const MOVE: u16 = 4;
-
-    pub const STEP: u16 = 5;
-
-    pub const LOOK: u16 = 6;
-
-    pub const VIEW: u16 = 7;
-
-    // Add and Correct, compass and clino in degrees and minutes.
-    pub const ADD_IN_MINUTES: u16 = 17;
-
-    pub const CORRECT_IN_MINUTES: u16 = 18;
+    // Whether this is what its length field may say. All but a view have one length.
+    #[tactic(auto, unfolding(crate::specs::Requests::length_fits))]
+    pub fn fits(self, length: u16) -> bool
+        ensures { result ≡ length_fits (kind_number self) length }
+    {
+        match self {
+            Kind::Add => length == Length::ADD,
+            Kind::Correct => length == Length::CORRECT,
+            Kind::Strike => length == Length::STRIKE,
+            Kind::Move => length == Length::MOVE,
+            Kind::Step => length == Length::STEP,
+            Kind::Look => length == Length::LOOK,
+            Kind::View => fits_view(length),
+            Kind::AddInMinutes => length == Length::ADD_IN_MINUTES,
+            Kind::CorrectInMinutes => length == Length::CORRECT_IN_MINUTES,
+        }
+    }
 }
 
-// The numbers of the refusals, in checking order.
-#[derive(Drop)]
-pub struct Refusal {}
+// Whether the length field is a view's, which says how many words there are.
+fn fits_view(length: u16) -> bool
+    ensures { result ≡ length_fits view_kind length }
+{
+    let count = length as usize;
+    if count < Frame::BEFORE_WORDS + Frame::FIELD {
+        return false;
+    }
+    if Frame::BEFORE_WORDS + Frame::FIELD * Limits::NAMED < count {
+        return false;
+    }
+    count % Frame::FIELD == 0
+}
+
+impl TryFrom<u16> for Kind {
+    type Error = Refusal;
+
+    ghost try_from_gives = { KindRead };
+
+    fn try_from(number: u16) -> Result<Kind, Refusal> {
+        match number {
+            1 => Ok(Kind::Add),
+            2 => Ok(Kind::Correct),
+            3 => Ok(Kind::Strike),
+            4 => Ok(Kind::Move),
+            Kind::STEP => Ok(Kind::Step),
+            6 => Ok(Kind::Look),
+            7 => Ok(Kind::View),
+            17 => Ok(Kind::AddInMinutes),
+            18 => Ok(Kind::CorrectInMinutes),
+            _ => Err(Refusal::Kind),
+        }
+    }
+}
+
+// Why a frame or a call without a frame is refused, with the papers' numbers, in checking order.
+#[derive(Clone, Copy, Debug, PartialEq, Eq)]
+pub enum Refusal {
+    // These three are returned, and written nowhere. The ranks are tested after the book.
+    Book = 1,
+    Ranks = 13,
+    Output = 2,
+    Torn = 3,
+    Kind = 4,
+    Length = 5,
+    Team = 6,
+    Ticket = 7,
+    Standing = 8,
+    NoTicket = 9,
+    Range = 10,
+    Repeated = 11,
+    // These are of calls without a frame, and are returned.
+    Scratch = 12,
+    TicketStands = 14,
+    Unsound = 15,
+    LegAbove = 16,
+    Store = 19,
+    Shelf = 20,
+    List = 21,
+}
 
 impl Refusal {
-    // These three are returned, and written nowhere. The ranks are tested after the book.
-    pub const BOOK: usize = 1;
-
-    pub const RANKS: usize = 13;
-
-    pub const OUTPUT: usize = 2;
-
-    pub const TORN: u16 = 3;
-
-    pub const KIND: u16 = 4;
-
-    pub const LENGTH: u16 = 5;
-
-    pub const TEAM: u16 = 6;
-
-    pub const TICKET: u16 = 7;
-
-    pub const STANDING: u16 = 8;
-
-    pub const NO_TICKET: u16 = 9;
-
-    pub const RANGE: u16 = 10;
-
-    pub const REPEATED: u16 = 11;
-
-    // These are of calls without a frame, and are returned.
-    pub const TICKET_STANDS: u16 = 14;
-
-    pub const UNSOUND: u16 = 15;
-
-    pub const LEG_ABOVE: u16 = 16;
-
-    pub const STORE: u16 = 19;
-
-    pub const SHELF: u16 = 20;
-
-    pub const LIST: u16 = 21;
+    // The number that a frame carries, or that a call returns.
+    pub fn number(self) -> u16
+        ensures { result ≡ refusal_number self }
+    {
+        self as u16
+    }
 }
+
+impl fmt::Display for Refusal {
+    fn fmt<W: fmt::Write>(&self, f: &mut fmt::Formatter<W>) -> fmt::Result {
+        write!(f, "refused {}", self.number())
+    }
+}
+
+impl Error for Refusal {}

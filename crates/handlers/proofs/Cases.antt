@@ -1,19 +1,21 @@
 -- What a frame settles, case by case: each test of the code, and what the definitions of the way say there.
-use Prim.Native.Nat.{ℕ, ◌≤◌, ◌<◌}
+use Rattle.edits.specs.declared.View.{View}
+use Rattle.std.specs.Prelude.{Result, Ok, Err}
+use Prim.Native.Nat.{ℕ, ◌≤◌}
 use mathlib.Core.Path.{◌≡◌, refl, sym, ap, subst, ◌∙◌}
 use mathlib.Core.Bool.{Bool, true, false, cond, not, false≢true}
 use mathlib.Core.List.{List, [], ◌∷◌}
 use native.Mathlib.Decide.{ℕ_discrete}
-use borrow.Author.Tests.{eq-eqb, ne_eqb, lt-ltb, le-ltb}
+use borrow.Author.Tests.{eq-eqb, ne_eqb}
 use lib.Dec.{eqb}
 use lib.ListN.{length}
 use Rattle.words.specs.Tests.{distinct}
-use Rattle.words.specs.Words.{Words, words_in_book, most_named}
+use Rattle.words.specs.Words.{Words, most_named}
 use Rattle.words.proofs.Tests.{split}
 use Rattle.legs.specs.Positions.{Ranks}
 use Rattle.tickets.specs.declared.Ticket as Slot
 use Rattle.tickets.specs.Tickets.{Ticket, has_ticket, well_made, SlotWellMade, slot_well_made}
-use Rattle.tickets.specs.Steps.{step_of, look_of}
+use Rattle.tickets.specs.Steps.{step_of}
 use Rattle.tickets.specs.Table.{stands_in, gathered, ElsewhereSame}
 use Rattle.tickets.proofs.Gathering.{gathered_has}
 use Rattle.edits.specs.declared.Edit.{Edit}
@@ -22,34 +24,21 @@ use Rattle.edits.specs.Opened.{target_count, opened_ticket}
 use Rattle.edits.specs.Views.{all_in_book, view_in_range, view_repeats, FineView, view_of, words_named, opened_view}
 use Rattle.edits.proofs.Views.{words_named_lem}
 use Rattle.frames.specs.declared.Answer.{Answer}
-use Rattle.frames.specs.declared.EditRead.{EditRead}
-use Rattle.frames.specs.declared.Reading.TheVariants as Reading
-use Rattle.frames.specs.declared.ViewRead.{ViewRead}
 use Rattle.frames.specs.Numbers.{Bytes, number16}
 use Rattle.frames.specs.Requests.{part_after_kind, step_kind, look_kind, view_kind, is_edit_kind, edit_of_kind, angles_of_kind, view_words_in}
 use Rattle.frames.specs.Answers.{answer_frame, PutAt}
-use Rattle.frames.specs.Fields.{read_if, read_edit, read_as, view_read, ViewFields, Whole}
+use Rattle.frames.specs.Fields.{read_if, read_edit, view_read, ViewFields, Whole}
 use Rattle.frames.proofs.Headers.{edit_kind_lem, other_kind, fields_of_kind, fields_of_view}
 use Rattle.decoder.proofs.Decoded.{only_allowed}
 use Rattle.calls.proofs.Refusing.{named_many}
-use Rattle.calls.specs.declared.Aim.{Aim}
-use Rattle.calls.specs.Way.{Settled, AimKnown, slot_of, settled_with, look_answer, open_settled, reading_settled, view_settled, step_settled, new_settled, EditFields, team_settled, look_settled, settled_by}
+use Rattle.calls.specs.Way.{Aim}
+use Rattle.calls.specs.Way.{Settled, AimKnown, slot_of, settled_with, look_answer, open_settled, view_settled, step_settled, new_settled, EditFields, team_settled, look_settled, settled_by}
 use Rattle.replies.specs.Leaving.{LeftBy}
 use Rattle.handlers.specs.declared.Opened.{Opened}
 use Rattle.handlers.specs.Settling.{step_by, open_by, NoStep, SettledAs, slot_after, OpenedAs}
 
--- A look, or refusal 10.
-pub look_shown : (words : Words) (word : ℕ) → word < words_in_book → Answer.Look (look_of words word) ≡ look_answer words word
-look_shown words word l = ap (λ b. cond b (Answer.Look (look_of words word)) (Answer.Refused 10)) (sym (lt-ltb word words_in_book l))
-
-pub look_outside : (words : Words) (word : ℕ) → words_in_book ≤ word → Answer.Refused 10 ≡ look_answer words word
-look_outside words word l = ap (λ b. cond b (Answer.Look (look_of words word)) (Answer.Refused 10)) (sym (le-ltb word words_in_book l))
-
-pub looked_so : (words : Words) (out : Bytes) (at : ℕ) {first second place : ℕ} {output : Bytes} → first ≡ second → PutAt out at (answer_frame (look_answer words first)) place output → PutAt out at (answer_frame (look_answer words second)) place output
-looked_so words out at {first} {second} {place} {output} is put = subst (λ (word : ℕ). PutAt out at (answer_frame (look_answer words word)) place output) is put
-
 -- A step of a team.
-pub step_by_lem : (words : Words) (ticket : Ticket) (ranks : Ranks) (frame : Bytes) (team : ℕ) → settled_by words ticket ranks frame (Aim.Team step_kind team) ≡ step_by words ticket team
+pub step_by_lem : (words : Words) (ticket : Ticket) (ranks : Ranks) (frame : Bytes) (team : ℕ) → settled_by words ticket ranks frame (Ok (Aim.Team step_kind team)) ≡ step_by words ticket team
 unfolding settled_by team_settled
 step_by_lem words ticket ranks frame team = refl
 
@@ -65,7 +54,7 @@ pub steps_made : (words : Words) (ticket : Ticket) (team : ℕ) → has_ticket t
 steps_made words ticket team stands made = rw (stands, made) refl
 
 -- Another frame of a team.
-pub open_by_lem : (words : Words) (ticket : Ticket) (ranks : Ranks) (frame : Bytes) (kind team : ℕ) → eqb kind step_kind ≡ false → settled_by words ticket ranks frame (Aim.Team kind team) ≡ (open_by ticket ranks (part_after_kind frame) kind, words)
+pub open_by_lem : (words : Words) (ticket : Ticket) (ranks : Ranks) (frame : Bytes) (kind team : ℕ) → eqb kind step_kind ≡ false → settled_by words ticket ranks frame (Ok (Aim.Team kind team)) ≡ (open_by ticket ranks (part_after_kind frame) kind, words)
 unfolding settled_by team_settled
 open_by_lem words ticket ranks frame kind team other = go (has_ticket ticket.phase) (well_made ticket)
   where
@@ -77,11 +66,11 @@ open_by_lem words ticket ranks frame kind team other = go (has_ticket ticket.pha
     go false made = rw other refl
 
 -- Frames that are no step change no word.
-pub no_word : (words : Words) (ticket : Ticket) (ranks : Ranks) (frame : Bytes) (aim : Aim) → NoStep aim → (settled_by words ticket ranks frame aim).1 ≡ words
+pub no_word : (words : Words) (ticket : Ticket) (ranks : Ranks) (frame : Bytes) (aim : Result Aim ℕ) → NoStep aim → (settled_by words ticket ranks frame aim).1 ≡ words
 unfolding settled_by
-no_word words ticket ranks frame (Aim.Refused number) other = refl
-no_word words ticket ranks frame Aim.Look other = refl
-no_word words ticket ranks frame (Aim.Team kind team) other = ap (λ (r : Settled × Words). r.1) (open_by_lem words ticket ranks frame kind team other)
+no_word words ticket ranks frame (Err number) other = refl
+no_word words ticket ranks frame (Ok Aim.Look) other = refl
+no_word words ticket ranks frame (Ok (Aim.Team kind team)) other = ap (λ (r : Settled × Words). r.1) (open_by_lem words ticket ranks frame kind team other)
 
 -- Over a ticket they are refused,
 pub opens_over : (ticket : Ticket) (ranks : Ranks) (part : Bytes) (kind : ℕ) → has_ticket ticket.phase ≡ true → well_made ticket ≡ true → settled_with ticket (Answer.Refused 8) ≡ open_by ticket ranks part kind
@@ -105,7 +94,7 @@ edit_fields_lem frame kind part whole edit is =
     let no_view = (edit_kind_lem kind edit).2 in
     record { edit = edit; long = ap length is ∙ fields_of_kind whole (λ e. false≢true (sym no_view ∙ eq-eqb kind view_kind e)) }
 
-pub view_kind_lem : (frame : Bytes) (kind team : ℕ) → AimKnown frame (Aim.Team kind team) → eqb kind step_kind ≡ false → is_edit_kind kind ≡ false → kind ≡ view_kind
+pub view_kind_lem : (frame : Bytes) (kind team : ℕ) → AimKnown frame (Ok (Aim.Team kind team)) → eqb kind step_kind ≡ false → is_edit_kind kind ≡ false → kind ≡ view_kind
 view_kind_lem frame kind team known no_step no_edit = elim (ℕ_discrete kind view_kind) [
   | yes view ↦ view
   | no no_view ↦ absurd (false≢true (sym no_edit ∙ other_kind kind known.0.known no_step (ne_eqb kind look_kind known.1) (ne_eqb kind view_kind no_view)))
@@ -115,38 +104,33 @@ pub view_fields : (frame : Bytes) (kind : ℕ) (part : Bytes) → Whole frame ki
 view_fields frame kind part whole view is = subst ViewFields (sym is) (fields_of_view (subst (Whole frame) view whole))
 
 -- An edit that is read is allowed.
-pub read_allowed : (kind : ℕ) (part : Bytes) (read : Edit) → read_edit kind part ≡ EditRead.Is read → edit_allowed read ≡ true
+pub read_allowed : (kind : ℕ) (part : Bytes) (read : Edit) → read_edit kind part ≡ Ok read → edit_allowed read ≡ true
 unfolding read_edit
 read_allowed kind part read e = go (angles_of_kind kind part) e
   where
-    go : (angles : Bool) → read_if angles (edit_of_kind kind part) ≡ EditRead.Is read → edit_allowed read ≡ true
+    go : (angles : Bool) → read_if angles (edit_of_kind kind part) ≡ Ok read → edit_allowed read ≡ true
     go true e = let (same, allowed) = only_allowed (edit_of_kind kind part) read e in subst (λ x. edit_allowed x ≡ true) same allowed
     go false e = cc
 
 -- A view that is read is fine, and is the words read.
-view_read_fine : (n : ℕ) (words : List ℕ) (read : ViewRead) → 1 ≤ length words → length words ≤ most_named → read ≡ view_read n words → read.reading ≡ Reading.Is
-    → (read.view ≡ view_of words) × FineView words
+view_read_fine : (n : ℕ) (words : List ℕ) (view : View) → 1 ≤ length words → length words ≤ most_named → view_read n words ≡ Ok view → (view ≡ view_of words) × FineView words
 unfolding view_read view_in_range view_repeats
-view_read_fine n words read least most e is = go (view_in_range n words) (distinct words) refl refl e
+view_read_fine n words view least most e = go (view_in_range n words) (distinct words) refl refl e
   where
-    refused : (number : ℕ) → read.reading ≡ Reading.Refused number → ⊥
-    refused number other = let clash : false ≡ true = cc in false≢true clash
-
     go : (range once : Bool) → view_in_range n words ≡ range → distinct words ≡ once
-        → read ≡ cond range (cond (not once) (read_as (Reading.Refused 11) []) (read_as Reading.Is words)) (read_as (Reading.Refused 10) [])
-        → (read.view ≡ view_of words) × FineView words
+        → cond {A = Result View ℕ} range (cond (not once) (Err 11) (Ok (view_of words))) (Err 10) ≡ Ok view
+        → (view ≡ view_of words) × FineView words
     go true true r o same =
         let (counted, (inside, u)) = split (eqb n (length words) ∷ all_in_book words ∷ []) r in
-        ((λ i. (same i).view), record { least = least; most = most; inside = inside; once = o })
-    go true false r o same = absurd (refused 11 (λ i. (same i).reading))
-    go false once r o same = absurd (refused 10 (λ i. (same i).reading))
+        (cc, record { least = least; most = most; inside = inside; once = o })
+    go true false r o same = cc
+    go false once r o same = cc
 
-pub view_read_opens : (part : Bytes) (read : ViewRead) → ViewFields part → read ≡ view_read (number16 part 2) (view_words_in part) → read.reading ≡ Reading.Is
-    → (read.view ≡ view_of (words_named read.view)) × FineView (words_named read.view)
-view_read_opens part read fields e is =
+pub view_read_opens : (part : Bytes) (view : View) → ViewFields part → view_read (number16 part 2) (view_words_in part) ≡ Ok view → (view ≡ view_of (words_named view)) × FineView (words_named view)
+view_read_opens part view fields e =
     let many = named_many part fields in
-    let (same, fine) = view_read_fine (number16 part 2) (view_words_in part) read many.0 many.1 e is in
-    let named : words_named read.view ≡ view_words_in part = ap words_named same ∙ words_named_lem (view_words_in part) in
+    let (same, fine) = view_read_fine (number16 part 2) (view_words_in part) view many.0 many.1 e in
+    let named : words_named view ≡ view_words_in part = ap words_named same ∙ words_named_lem (view_words_in part) in
     (same ∙ ap view_of (sym named), subst FineView (sym named) fine)
 
 -- What a frame leaves that opens no ticket: the slot and its targets as they were.
@@ -172,28 +156,28 @@ left_opened result before after team slot ticket opened answer out at place outp
 }
 
 -- An edit read, and a view.
-pub edit_opened : (ticket opened : Ticket) (ranks : Ranks) (edit : Edit) (n : ℕ) → opened ≡ opened_ticket ranks edit → n ≡ target_count edit → settled_with opened (Answer.Standing n) ≡ open_settled ticket ranks (EditRead.Is edit)
+pub edit_opened : (ticket opened : Ticket) (ranks : Ranks) (edit : Edit) (n : ℕ) → opened ≡ opened_ticket ranks edit → n ≡ target_count edit → settled_with opened (Answer.Standing n) ≡ open_settled ticket ranks (Ok edit)
 unfolding open_settled
 edit_opened ticket opened ranks edit n is counted = λ i. settled_with (is i) (Answer.Standing (counted i))
 
-pub edit_refused : (ticket : Ticket) (ranks : Ranks) (number : ℕ) → settled_with ticket (Answer.Refused number) ≡ open_settled ticket ranks (EditRead.Refused number)
+pub edit_refused : (ticket : Ticket) (ranks : Ranks) (number : ℕ) → settled_with ticket (Answer.Refused number) ≡ open_settled ticket ranks (Err number)
 unfolding open_settled
 edit_refused ticket ranks number = refl
 
-pub view_opened : (ticket opened : Ticket) (ranks : Ranks) (read : ViewRead) → read.reading ≡ Reading.Is → opened ≡ opened_view ranks (words_named read.view) → settled_with opened (Answer.Standing read.view.n) ≡ view_settled ticket ranks read
+pub view_opened : (ticket opened : Ticket) (ranks : Ranks) (view : View) → opened ≡ opened_view ranks (words_named view) → settled_with opened (Answer.Standing view.n) ≡ view_settled ticket ranks (Ok view)
 unfolding view_settled
-view_opened ticket opened ranks read is opens = (λ i. settled_with (opens i) (Answer.Standing read.view.n)) ∙ ap (reading_settled ticket ranks read.view) (sym is)
+view_opened ticket opened ranks view opens = λ i. settled_with (opens i) (Answer.Standing view.n)
 
-pub view_refused : (ticket : Ticket) (ranks : Ranks) (read : ViewRead) (number : ℕ) → read.reading ≡ Reading.Refused number → settled_with ticket (Answer.Refused number) ≡ view_settled ticket ranks read
+pub view_refused : (ticket : Ticket) (ranks : Ranks) (number : ℕ) → settled_with ticket (Answer.Refused number) ≡ view_settled ticket ranks (Err number)
 unfolding view_settled
-view_refused ticket ranks read number is = ap (reading_settled ticket ranks read.view) (sym is)
+view_refused ticket ranks number = refl
 
 -- A refused frame, and a look.
-pub refused_by : (words : Words) (ticket : Ticket) (ranks : Ranks) (frame : Bytes) (number : ℕ) → settled_with ticket (Answer.Refused number) ≡ (settled_by words ticket ranks frame (Aim.Refused number)).0
+pub refused_by : (words : Words) (ticket : Ticket) (ranks : Ranks) (frame : Bytes) (number : ℕ) → settled_with ticket (Answer.Refused number) ≡ (settled_by words ticket ranks frame (Err number)).0
 unfolding settled_by
 refused_by words ticket ranks frame number = refl
 
-pub look_by : (words : Words) (ticket : Ticket) (ranks : Ranks) (frame : Bytes) → settled_with ticket (look_answer words (number16 (part_after_kind frame) 0)) ≡ (settled_by words ticket ranks frame Aim.Look).0
+pub look_by : (words : Words) (ticket : Ticket) (ranks : Ranks) (frame : Bytes) → settled_with ticket (look_answer words (number16 (part_after_kind frame) 0)) ≡ (settled_by words ticket ranks frame (Ok Aim.Look)).0
 unfolding settled_by look_settled
 look_by words ticket ranks frame = refl
 
@@ -244,8 +228,8 @@ pub settled_so : {first second : Settled} {before after : List ℕ} {team : ℕ}
 settled_so {first} {second} {before} {after} {team} {slot} {opened} {out} {at} {output} is by = subst (λ (r : Settled). OpenedAs r before after team slot opened out at output) is by
 
 -- and by the aim that it was found to have.
-pub aimed_so : (words : Words) (targets : List ℕ) (ranks : Ranks) (frame : Bytes) (slot : Slot.Ticket) {first second : Aim} {after : List ℕ} {opened : Opened} {out : Bytes} {at : ℕ} {output : Bytes} → first ≡ second
+pub aimed_so : (words : Words) (targets : List ℕ) (ranks : Ranks) (frame : Bytes) (slot : Slot.Ticket) {first second : Result Aim ℕ} {after : List ℕ} {opened : Opened} {out : Bytes} {at : ℕ} {output : Bytes} → first ≡ second
     → OpenedAs (settled_by words (gathered targets (slot_of second) slot) ranks frame second).0 targets after (slot_of second) slot opened out at output
     → OpenedAs (settled_by words (gathered targets (slot_of first) slot) ranks frame first).0 targets after (slot_of first) slot opened out at output
 aimed_so words targets ranks frame slot {first} {second} {after} {opened} {out} {at} {output} is by =
-    subst (λ (a : Aim). OpenedAs (settled_by words (gathered targets (slot_of a) slot) ranks frame a).0 targets after (slot_of a) slot opened out at output) (sym is) by
+    subst (λ (a : Result Aim ℕ). OpenedAs (settled_by words (gathered targets (slot_of a) slot) ranks frame a).0 targets after (slot_of a) slot opened out at output) (sym is) by

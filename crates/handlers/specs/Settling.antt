@@ -1,5 +1,5 @@
 -- What a frame leaves: the ticket that its slot then says, the words, and its answer at a place of the output.
-use Rattle.std.specs.Prelude.{ℕ, ◌≡◌, true, false, cond, List, eqb, length}
+use Rattle.std.specs.Prelude.{ℕ, ◌≡◌, true, false, cond, List, eqb, length, Result, Ok, Err}
 use Rattle.words.specs.Words.{Words}
 use Rattle.legs.specs.Positions.{Ranks}
 use Rattle.tickets.specs.declared.Ticket as Slot
@@ -10,7 +10,7 @@ use Rattle.frames.specs.declared.Answer.TheVariants as Answer
 use Rattle.frames.specs.Numbers.{Bytes}
 use Rattle.frames.specs.Requests.{step_kind}
 use Rattle.frames.specs.Answers.{answer_frame, PutAt}
-use Rattle.calls.specs.declared.Aim.{Aim}
+use Rattle.calls.specs.Way.{Aim}
 use Rattle.calls.specs.Way.{Settled, settled_with, step_settled, new_settled}
 use Rattle.claiming.specs.Missing.{MissLeft}
 use Rattle.quick.specs.declared.Tried.{Tried}
@@ -31,10 +31,10 @@ open_by ticket ranks part kind =
     (new_settled ticket ranks part kind)
 
 -- A frame that is no team's step.
-abbrev pub NoStep : Aim → Type 0
-NoStep (Aim.Refused number) = Unit {0}
-NoStep Aim.Look = Unit {0}
-NoStep (Aim.Team kind team) = eqb kind step_kind ≡ false
+abbrev pub NoStep : Result Aim ℕ → Type 0
+NoStep (Err number) = Unit {0}
+NoStep (Ok Aim.Look) = Unit {0}
+NoStep (Ok (Aim.Team kind team)) = eqb kind step_kind ≡ false
 
 -- What a step leaves.
 pub record SettledAs (result : Settled × Words) (targets : List ℕ) (team : ℕ) (slot : Slot.Ticket) (words : Words) (out : Bytes) (at place : ℕ) (output : Bytes) : Type 0 where

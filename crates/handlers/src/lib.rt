@@ -12,16 +12,17 @@ ghost use Rattle.frames.specs.Requests.{part_after_kind, view_words_in, step_kin
 ghost use Rattle.frames.specs.Numbers.{number16};
 ghost use Rattle.frames.specs.Fields.{Whole, ViewFields, read_edit, view_read};
 ghost use Rattle.frames.specs.Requests.{look_kind};
+ghost use Rattle.frames.specs.Refusals.{refusal_number};
+ghost use Rattle.frames.specs.Kinds.{kind_number};
 ghost use Rattle.frames.specs.Answers.{longest_answer, answer_frame, written, PutAt};
 ghost use Rattle.frames.specs.declared.Answer.TheVariants as Answer;
-ghost use Rattle.calls.specs.declared.Aim.TheVariants as Aim;
-ghost use Rattle.calls.specs.Way.{AimKnown, slot_of, look_answer, open_settled, view_settled, EditFields, settled_by};
+ghost use Rattle.calls.specs.Way.{aimed, aim_numbered, AimKnown, slot_of, look_answer, open_settled, view_settled, EditFields, settled_by};
 ghost use Rattle.replies.specs.Leaving.{RoomAt};
 ghost use Rattle.claiming.specs.Missing.{MissesIn};
 ghost use Rattle.handlers.specs.Settling.{open_by, NoStep, OpenedAs, StepLeft};
 
 use calls::Aim;
-use frames::{EditRead, Reading, Refusal};
+use frames::{Answer, Kind, Refusal};
 use quick::Tried;
 use replies::Left;
 use tickets::{Ticket, Tickets};
@@ -35,47 +36,25 @@ pub struct Opened {
     pub filled: usize,
 }
 
-fn write_looked(out: &mut [u8], book: &[u64], word: u16) -> usize
-    requires { (longest_answer ≤ length out.old) × (length book.now ≡ words_in_book) }
-    ensures { ((result, out.new) ≡ written out.old (answer_frame (look_answer book.now word))) × (result ≤ longest_answer) }
-{
-    if (word as usize) < Limits::WORDS {
-        let look = steps::look(book, word);
-        return encoder::write_look(out, look);
-    }
-    encoder::write_refused(out, Refusal::RANGE)
-}
-
-// Puts an answer at a place of the output, and returns the place after it: that of an edit or a view that opens a ticket,
-fn put_standing(out: &mut [u8], at: usize, n: u16) -> usize
-    requires { RoomAt out.old at }
-    ensures { PutAt out.old at (answer_frame (Answer.Standing n)) result out.new }
-{
-    let room = &mut out[at..];
-    let count = encoder::write_standing(room, n);
-    at + count
-}
-
-// of a look,
+// Puts the answer to a look at a place of the output, and returns the place after it,
 fn put_look(out: &mut [u8], at: usize, book: &[u64], frame: &[u8]) -> usize
     requires { RoomAt out.old at × (length book.now ≡ words_in_book) × Whole frame.now look_kind }
     ensures { PutAt out.old at (answer_frame (look_answer book.now (number16 (part_after_kind frame.now) 0))) result out.new }
 {
     let part = frames::head::part_after_kind(frame);
     let word = frames::numbers::read16(part, 0);
-    let room = &mut out[at..];
-    let count = write_looked(room, book, word);
-    at + count
+    if (word as usize) < Limits::WORDS {
+        return replies::put(out, at, Answer::Look(steps::look(book, word)));
+    }
+    put_refused(out, at, Refusal::Range)
 }
 
-// and of a refusal.
-pub fn put_refused(out: &mut [u8], at: usize, number: u16) -> usize
+// and a refusal.
+pub fn put_refused(out: &mut [u8], at: usize, refusal: Refusal) -> usize
     requires { RoomAt out.old at }
-    ensures { PutAt out.old at (answer_frame (Answer.Refused number)) result out.new }
+    ensures { PutAt out.old at (answer_frame (Answer.Refused (refusal_number refusal))) result out.new }
 {
-    let room = &mut out[at..];
-    let count = encoder::write_refused(room, number);
-    at + count
+    replies::put(out, at, Answer::Refused(refusal.number()))
 }
 
 // No ticket is opened, and the place behind the answer is known.
@@ -93,27 +72,26 @@ fn open_edit(
     targets: &mut [u64; Tickets::NUMBERS],
     ranks: &[u16],
     slot: usize,
-    kind: u16,
+    kind: Kind,
     part: &[u8],
     out: &mut [u8],
     at: usize,
 ) -> Opened
-    requires { (slot < team_count) × EditFields part.now kind × Accepted ranks.now × RoomAt out.old at }
-    ensures { (ticket : Slot.Ticket) → OpenedAs (open_settled (gathered targets.old slot ticket) ranks.now (read_edit kind part.now)) targets.old targets.new slot ticket result out.old at out.new }
+    requires { (slot < team_count) × EditFields part.now (kind_number kind) × Accepted ranks.now × RoomAt out.old at }
+    ensures { (ticket : Slot.Ticket) → OpenedAs (open_settled (gathered targets.old slot ticket) ranks.now (read_edit (kind_number kind) part.now)) targets.old targets.new slot ticket result out.old at out.new }
 {
-    let read = decoder::read_edit(kind, part);
-    match read {
-        EditRead::Is(edit) => {
+    match decoder::read_edit(kind, part) {
+        Ok(edit) => {
             let n = opening::open(targets, ranks, slot, edit);
-            let filled = put_standing(out, at, n);
+            let filled = replies::put(out, at, Answer::Standing(n));
             Opened {
                 opens: true,
                 ticket: Ticket::edit(n),
                 filled: filled,
             }
         }
-        EditRead::Refused(number) => {
-            let filled = put_refused(out, at, number);
+        Err(refusal) => {
+            let filled = put_refused(out, at, refusal);
             unopened(filled)
         }
     }
@@ -130,21 +108,18 @@ fn open_view(
     requires { (slot < team_count) × ViewFields part.now × Accepted ranks.now × RoomAt out.old at }
     ensures { (ticket : Slot.Ticket) → OpenedAs (view_settled (gathered targets.old slot ticket) ranks.now (view_read (number16 part.now 2) (view_words_in part.now))) targets.old targets.new slot ticket result out.old at out.new }
 {
-    let read = decoder::read_view(part);
-    let view = read.view;
-    let reading = read.reading;
-    match reading {
-        Reading::Is => {
+    match decoder::read_view(part) {
+        Ok(view) => {
             opening::open_view(targets, ranks, slot, view);
-            let filled = put_standing(out, at, view.n);
+            let filled = replies::put(out, at, Answer::Standing(view.n));
             Opened {
                 opens: true,
                 ticket: Ticket::view(view.n),
                 filled: filled,
             }
         }
-        Reading::Refused(number) => {
-            let filled = put_refused(out, at, number);
+        Err(refusal) => {
+            let filled = put_refused(out, at, refusal);
             unopened(filled)
         }
     }
@@ -172,25 +147,25 @@ fn open(
     ranks: &[u16],
     ticket: Ticket,
     frame: &[u8],
-    kind: u16,
+    kind: Kind,
     team: u16,
     out: &mut [u8],
     at: usize,
 ) -> Opened
-    requires { AimKnown frame.now (Aim.Team kind team) × NoStep (Aim.Team kind team) × Accepted ranks.now × RoomAt out.old at }
-    ensures { OpenedAs (open_by (gathered targets.old team ticket) ranks.now (part_after_kind frame.now) kind) targets.old targets.new team ticket result out.old at out.new }
+    requires { AimKnown frame.now (Ok (aimed (Aim.Team kind team))) × NoStep (Ok (aimed (Aim.Team kind team))) × Accepted ranks.now × RoomAt out.old at }
+    ensures { OpenedAs (open_by (gathered targets.old team ticket) ranks.now (part_after_kind frame.now) (kind_number kind)) targets.old targets.new team ticket result out.old at out.new }
 {
     let slot = team as usize;
     if ticket.stands() {
         if making::slot_well_made(targets, slot, ticket) {
-            let filled = put_refused(out, at, Refusal::STANDING);
+            let filled = put_refused(out, at, Refusal::Standing);
             return unopened(filled);
         }
-        let filled = put_refused(out, at, Refusal::TICKET);
+        let filled = put_refused(out, at, Refusal::Ticket);
         return unopened(filled);
     }
     let part = frames::head::part_after_kind(frame);
-    if frames::head::is_edit_kind(kind) {
+    if kind.is_edit() {
         return open_edit(targets, ranks, slot, kind, part, out, at);
     }
     open_view(targets, ranks, slot, part, out, at)
@@ -203,18 +178,21 @@ pub fn other_frame(
     ranks: &[u16],
     ticket: Ticket,
     frame: &[u8],
-    aim: Aim,
+    aim: Result<Aim, Refusal>,
     out: &mut [u8],
     at: usize,
 ) -> Opened
-    requires { (length book.now ≡ words_in_book) × AimKnown frame.now aim × NoStep aim × Accepted ranks.now × RoomAt out.old at }
-    ensures { OpenedAs (settled_by book.now (gathered targets.old (slot_of aim) ticket) ranks.now frame.now aim).0 targets.old targets.new (slot_of aim) ticket result out.old at out.new }
+    requires { (length book.now ≡ words_in_book) × AimKnown frame.now (aim_numbered aim) × NoStep (aim_numbered aim) × Accepted ranks.now × RoomAt out.old at }
+    ensures { OpenedAs (settled_by book.now (gathered targets.old (slot_of (aim_numbered aim)) ticket) ranks.now frame.now (aim_numbered aim)).0 targets.old targets.new (slot_of (aim_numbered aim)) ticket result out.old at out.new }
 {
-    match aim {
-        Aim::Refused(number) => {
-            let filled = put_refused(out, at, number);
-            unopened(filled)
+    let aim = match aim {
+        Ok(aim) => aim,
+        Err(refusal) => {
+            let filled = put_refused(out, at, refusal);
+            return unopened(filled);
         }
+    };
+    match aim {
         Aim::Look => {
             let filled = put_look(out, at, book, frame);
             unopened(filled)
@@ -223,11 +201,11 @@ pub fn other_frame(
     }
 }
 
-fn refuse(ticket: Ticket, number: u16, out: &mut [u8], at: usize) -> Left
+fn refuse(ticket: Ticket, refusal: Refusal, out: &mut [u8], at: usize) -> Left
     requires { RoomAt out.old at }
-    ensures { (result.ticket ≡ ticket) × PutAt out.old at (answer_frame (Answer.Refused number)) result.filled out.new }
+    ensures { (result.ticket ≡ ticket) × PutAt out.old at (answer_frame (Answer.Refused (refusal_number refusal))) result.filled out.new }
 {
-    let filled = put_refused(out, at, number);
+    let filled = put_refused(out, at, refusal);
     Left {
         ticket: ticket,
         filled: filled,
@@ -252,10 +230,10 @@ pub fn other_step(
         return claiming::missed(targets, ticket, slot, tried.found, out, at);
     }
     if !ticket.stands() {
-        return refuse(ticket, Refusal::NO_TICKET, out, at);
+        return refuse(ticket, Refusal::NoTicket, out, at);
     }
     if !known_well_made(targets, slot, ticket, known) {
-        return refuse(ticket, Refusal::TICKET, out, at);
+        return refuse(ticket, Refusal::Ticket, out, at);
     }
     steps::step(book, targets, ticket, slot, out, at)
 }

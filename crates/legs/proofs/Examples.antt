@@ -9,10 +9,9 @@ use Rattle.words.specs.Tests.{all_hold}
 use Rattle.words.specs.declared.LegLayout.TheVariants.{ThreeWords, FourWords}
 use Rattle.words.specs.Words.{link_word_in, measure_word_in, newer_word}
 use Rattle.legs.specs.declared.Leg.{Leg}
-use Rattle.legs.specs.declared.Reading.{Reading}
-use Rattle.legs.specs.declared.Reading.TheVariants.{NoLeg, Is}
+use Rattle.std.specs.Prelude.{None, Some}
 use Rattle.legs.specs.Legs.{clino_offset, place_of, measure_of, place_in_range, measure_in_range}
-use Rattle.legs.specs.Reading.{is_place, is_measure, reading_of}
+use Rattle.legs.specs.Reading.{Reading, is_place, is_measure, reading_of}
 use Rattle.legs.specs.Positions.{Ranks, fixed_ranks, position_by, position_of, is_permutation}
 use Rattle.legs.specs.Minutes.{hundredths_of, signed_by, compass_angle_in_range, clino_angle_in_range, rounded}
 
@@ -105,7 +104,7 @@ unfolding is_permutation all_hold
 accepted_or_not = refl
 
 -- The same two words, read.
-that_leg_read : reading_of 8388673 76022100792200 ≡ Is that_leg
+that_leg_read : reading_of 8388673 76022100792200 ≡ Some that_leg
 unfolding reading_of is_place is_measure place_in_range measure_in_range all_hold
 that_leg_read = refl
 
@@ -113,28 +112,28 @@ abbrev read_back : Leg → Reading
 read_back leg = reading_of (place_of leg.passage leg.stations) (measure_of leg.measure)
 
 -- The last of every range: a plumb leg, whose compass is taken as 0.
-largest : read_back (leg 31 65535 65534 100000 35999 (pos 9000)) ≡ Is (leg 31 65535 65534 100000 0 (pos 9000))
+largest : read_back (leg 31 65535 65534 100000 35999 (pos 9000)) ≡ Some (leg 31 65535 65534 100000 0 (pos 9000))
 unfolding reading_of is_place is_measure place_in_range measure_in_range all_hold
 largest = refl
 
-smallest : read_back (leg 0 0 1 1 0 (negsuc 8999)) ≡ Is (leg 0 0 1 1 0 (negsuc 8999))
+smallest : read_back (leg 0 0 1 1 0 (negsuc 8999)) ≡ Some (leg 0 0 1 1 0 (negsuc 8999))
 unfolding reading_of is_place is_measure place_in_range measure_in_range all_hold
 smallest = refl
 
 -- The words of an unused leg.
-zeros : reading_of 0 0 ≡ NoLeg
+zeros : reading_of 0 0 ≡ None
 unfolding reading_of is_place is_measure place_in_range measure_in_range all_hold
 zeros = refl
 
-from_is_to : read_back (leg 0 7 7 5000 9000 (negsuc 149)) ≡ NoLeg
+from_is_to : read_back (leg 0 7 7 5000 9000 (negsuc 149)) ≡ None
 unfolding reading_of is_place is_measure place_in_range measure_in_range all_hold
 from_is_to = refl
 
-passage_32 : read_back (leg 32 1 2 5000 9000 (negsuc 149)) ≡ NoLeg
+passage_32 : read_back (leg 32 1 2 5000 9000 (negsuc 149)) ≡ None
 unfolding reading_of is_place is_measure place_in_range measure_in_range all_hold
 passage_32 = refl
 
-clino_9001 : read_back (leg 0 1 2 5000 9000 (pos 9001)) ≡ NoLeg
+clino_9001 : read_back (leg 0 1 2 5000 9000 (pos 9001)) ≡ None
 unfolding reading_of is_place is_measure place_in_range measure_in_range all_hold
 clino_9001 = refl
 
@@ -143,11 +142,11 @@ one_shaft : measure_of (leg 0 1 2 5000 18000 (negsuc 8999)).measure ≡ measure_
 one_shaft = refl
 
 -- The word of that shaft with its compass kept, as a book from before may have it: 5,000 + 2^17 × 18,000.
-compass_kept : reading_of 8388673 2359301000 ≡ NoLeg
+compass_kept : reading_of 8388673 2359301000 ≡ None
 unfolding reading_of is_place is_measure place_in_range measure_in_range all_hold
 compass_kept = refl
 
 -- One hundredth less steep, the compass counts.
-nearly_plumb : read_back (leg 0 1 2 5000 18000 (pos 8999)) ≡ Is (leg 0 1 2 5000 18000 (pos 8999))
+nearly_plumb : read_back (leg 0 1 2 5000 18000 (pos 8999)) ≡ Some (leg 0 1 2 5000 18000 (pos 8999))
 unfolding reading_of is_place is_measure place_in_range measure_in_range all_hold
 nearly_plumb = refl

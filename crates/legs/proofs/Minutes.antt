@@ -1,18 +1,17 @@
 -- Angles in minutes, rounded: to the nearest hundredth, within a third of one, both of M; figures in range stay so; zero has no sign; plumb at 90 degrees alone.
-use Prim.Native.Nat.{ℕ, zero, suc, ◌+◌, ◌*◌, ◌-◌, ◌/◌, ◌≤◌}
+use Prim.Native.Nat.{ℕ, zero, suc, ◌+◌, ◌*◌, ◌/◌, ◌≤◌}
 use mathlib.Core.Path.{◌≡◌, refl, sym, ap, ◌∙◌}
 use mathlib.Core.List.{[], ◌∷◌}
 use mathlib.Core.Bool.{Bool, true, false, cond}
 use mathlib.Core.Logic.{inl, inr}
 use native.Mathlib.Omega.{arith}
 use native.Mathlib.Decide.{ℕ_discrete, dec_lt}
-use borrow.Author.Tests.{leb-true, le-leb, lt-ltb, le-ltb, eq-eqb, ne_eqb}
+use borrow.Author.Tests.{leb-true, le-leb, eq-eqb, ne_eqb}
 use lib.Dec.{eqb, leb}
-use lib.IntN.{pos, negsuc}
+use lib.IntN.{pos}
 use Rattle.words.specs.Tests.{all_hold, within}
 use Rattle.words.proofs.Tests.{split, join}
 use Rattle.legs.specs.Legs.{longest_distance, last_compass, steepest_clino, clino_in_range, is_plumb, measure_in_range}
-use Rattle.legs.specs.Reading.{clino_at}
 use Rattle.legs.specs.Minutes.{Minutes, minutes_of, hundredths_of, down, signed_by, compass_angle_in_range, clino_angle_in_range, angles_in_range, Rounded, RoundsToTheNearest, RoundsBothAngles, RoundedInRange, ZeroHasNoSign, PlumbAtNinety}
 
 -- As it is computed: 100 hundredths a degree, and 5/3 a minute.
@@ -74,14 +73,6 @@ signed_fits_lem sign hundredths h = by (eqb sign 0) hundredths h
     by true n h = le-leb n steepest_clino h
     by false zero h = refl
     by false (suc n) h = le-leb (n + 1) steepest_clino (omega arith)
-
--- The offset of a clino so steep: up and down.
-pub up_at : (sign hundredths : ℕ) → sign ≡ 0 → clino_at (steepest_clino + hundredths) ≡ signed_by sign hundredths
-up_at sign hundredths up = rw (eq-eqb sign 0 up, le-ltb (steepest_clino + hundredths) steepest_clino (omega arith)) (ap pos (omega arith))
-
-pub down_at : (sign hundredths : ℕ) → (sign ≡ 0 → ⊥) → hundredths ≤ steepest_clino → clino_at (steepest_clino - hundredths) ≡ signed_by sign hundredths
-down_at sign zero other h = sym (ap (λ (up : Bool). cond up (pos zero) (down zero)) (ne_eqb sign 0 other))
-down_at sign (suc n) other h = rw (ne_eqb sign 0 other, lt-ltb (steepest_clino - suc n) steepest_clino (omega arith)) (ap negsuc (omega arith))
 
 -- An angle up to 90 degrees comes to 9,000 hundredths at most.
 pub steep_fits : (degrees minutes : ℕ) → minutes_of degrees minutes ≤ minutes_of 90 0 → hundredths_of degrees minutes ≤ steepest_clino

@@ -1,5 +1,6 @@
 // Calls that a stream can't reach, from standard input: other books, short outputs, lent tickets, and readings. What each gives
-// comes on standard output. The form of a call is that of `desk`; what comes behind the last whole one is passed over.
+// comes on standard output. The form of a call is that of `desk`; what comes behind the last whole one is passed over, and so is a
+// call with a tag that isn't known.
 //
 // - Title (0): the bytes carried, as they stand.
 // - Fresh (1): zero words, and no ticket. Writes nothing, as the next three.
@@ -13,46 +14,101 @@
 // claimed, done, tries, and its targets.
 #![tactic(auto)]
 
-ghost use Rattle.std.specs.Prelude.{◌+◌, ◌*◌, ◌≤◌, ◌<◌, length};
-ghost use Rattle.words.specs.Words.{team_count};
-ghost use Rattle.tickets.specs.Table.{target_room};
-
-use desk::{Place, Room, at_most, read64, say};
-use frames::numbers::{Bits, read16};
-use legs::{Leg, Reading};
-use std::io::{Stdin, Stdout};
+use desk::records::{Call, Records, UnknownTag};
+use desk::text::{Bytes, Numbers};
+use desk::{Room, text};
+use legs::{Leg, Measure, Stations};
+use std::io;
+use std::io::{Print, Stdout};
 use tickets::{Phase, Ticket, Tickets};
-use words::Limits;
 
-#[derive(Drop)]
-struct Tag {}
-
-impl Tag {
-    const TITLE: u16 = 0;
-
-    const FRESH: u16 = 1;
-
-    const WORD: u16 = 2;
-
-    const SLOT: u16 = 3;
-
-    const TARGET: u16 = 4;
-
-    const FRAME: u16 = 5;
-
-    const READ: u16 = 6;
+enum Tag {
+    Title,
+    Fresh,
+    Word,
+    Slot,
+    Target,
+    Frame,
+    Read,
 }
 
-// The bytes that are carried of a number, of a slot, and of a reading's two numbers.
-#[derive(Drop)]
-struct Carried {}
+impl TryFrom<u16> for Tag {
+    type Error = UnknownTag;
 
-impl Carried {
-    const NUMBER: usize = 8;
+    fn try_from(tag: u16) -> Result<Tag, UnknownTag> {
+        match tag {
+            0 => Ok(Tag::Title),
+            1 => Ok(Tag::Fresh),
+            2 => Ok(Tag::Word),
+            3 => Ok(Tag::Slot),
+            4 => Ok(Tag::Target),
+            5 => Ok(Tag::Frame),
+            6 => Ok(Tag::Read),
+            _ => Err(UnknownTag(tag)),
+        }
+    }
+}
 
-    const SLOT: usize = 12;
+fn name_of(phase: Phase) -> &'static str {
+    match phase {
+        Phase::NoTicket => "none",
+        Phase::Claiming => "claiming",
+        Phase::Putting => "putting",
+        Phase::GivingBack => "giving-back",
+        Phase::Viewing => "viewing",
+        Phase::Viewed => "viewed",
+    }
+}
 
-    const READING: usize = 16;
+// A ticket and its first n targets, or those that there is room for.
+fn tell_ticket(stdout: Stdout, team: usize, ticket: Ticket, room: &[u64]) -> io::Result<()> {
+    let phase = name_of(ticket.phase());
+    let Ticket {
+        tries,
+        n,
+        claimed,
+        done,
+        ..
+    } = ticket;
+    let many = room.len().min(Tickets::TARGET * n as usize);
+    let targets = Numbers(&room[..many]);
+    println!(stdout; "ticket {team} {phase} {n} {claimed} {done} {tries} :{targets}")
+}
+
+fn tell_tickets(stdout: Stdout, tickets: &Tickets) -> io::Result<()> {
+    let rooms = tickets.targets.chunks(Tickets::TARGET * Tickets::ROOM);
+    for (team, (ticket, room)) in tickets.slots.iter().zip(rooms).enumerate() {
+        if ticket.stands() {
+            tell_ticket(stdout, team, *ticket, room)?;
+        }
+    }
+    Ok(())
+}
+
+fn tell_leg(stdout: Stdout, leg: Leg) -> io::Result<()> {
+    let Leg {
+        passage,
+        stations,
+        measure,
+    } = leg;
+    let Stations { from, to } = stations;
+    let Measure {
+        distance,
+        compass,
+        clino,
+    } = measure;
+    println!(stdout; "leg {passage} {from} {to} {distance} {compass} {clino}")
+}
+
+fn read(stdout: Stdout, carried: &[u8]) -> io::Result<()> {
+    let mut numbers = Records::<u64>::of(carried);
+    let (Some(place), Some(measure)) = (numbers.next(), numbers.next()) else {
+        return Ok(());
+    };
+    match legs::read_leg(place, measure) {
+        None => println!(stdout; "no leg"),
+        Some(leg) => tell_leg(stdout, leg),
+    }
 }
 
 // The words lent, and the table of tickets.
@@ -62,256 +118,79 @@ struct State {
     tickets: Tickets,
 }
 
-fn fresh() -> State {
-    State {
-        words: [0; Room::WORDS],
-        tickets: Tickets::fresh(),
-    }
-}
-
-fn number_in(carried: &[u8]) -> u64 {
-    if carried.len() < Carried::NUMBER {
-        return 0;
-    }
-    read64(carried, 0)
-}
-
-fn with_word(mut state: State, word: usize, value: u64) -> State {
-    if Room::WORDS <= word {
-        return state;
-    }
-    state.words[word] = value;
-    state
-}
-
-fn with_target(mut state: State, place: usize, value: u64) -> State {
-    if Tickets::NUMBERS <= place {
-        return state;
-    }
-    let mut tickets = state.tickets;
-    tickets.targets[place] = value;
-    state.tickets = tickets;
-    state
-}
-
-fn slot_in(carried: &[u8]) -> Ticket {
-    if carried.len() < Carried::SLOT {
-        return Ticket::none();
-    }
-    desk::read_slot(carried, 0)
-}
-
-fn with_slot(mut state: State, team: usize, slot: Ticket) -> State {
-    if Limits::TEAMS <= team {
-        return state;
-    }
-    let mut tickets = state.tickets;
-    tickets.slots[team] = slot;
-    state.tickets = tickets;
-    state
-}
-
-fn tell_words(stdout: Stdout, before: &[u64; Room::WORDS], after: &[u64; Room::WORDS]) {
-    let mut word: usize = 0;
-    while word < Room::WORDS {
-        say::change(stdout, word, before[word], after[word]);
-        word += 1;
-    }
-}
-
-fn tell_phase(stdout: Stdout, phase: Phase) {
-    match phase {
-        Phase::NoTicket => say::text(stdout, b" none"),
-        Phase::Claiming => say::text(stdout, b" claiming"),
-        Phase::Putting => say::text(stdout, b" putting"),
-        Phase::GivingBack => say::text(stdout, b" giving-back"),
-        Phase::Viewing => say::text(stdout, b" viewing"),
-        Phase::Viewed => say::text(stdout, b" viewed"),
-    }
-}
-
-// The first n targets, or those that there is room for.
-fn tell_targets(stdout: Stdout, targets: &[u64], team: usize, n: u16)
-    requires { (team < team_count) × (3 * (target_room * team_count) ≤ length targets.now) }
-{
-    let many = at_most(n as usize, Tickets::ROOM);
-    let first = Tickets::place(team, 0);
-    let end = first + Tickets::TARGET * many;
-    say::text(stdout, b" :");
-    say::numbers(stdout, &targets[first..end]);
-    say::end(stdout);
-}
-
-fn tell_ticket(stdout: Stdout, targets: &[u64; Tickets::NUMBERS], team: usize, ticket: Ticket)
-    requires { team < team_count }
-{
-    if !ticket.stands() {
-        return;
-    }
-    let counts = [
-        ticket.n as u64,
-        ticket.claimed as u64,
-        ticket.done as u64,
-        ticket.tries as u64,
-    ];
-    say::text(stdout, b"ticket");
-    say::number(stdout, team as u64);
-    tell_phase(stdout, ticket.phase());
-    say::numbers(stdout, &counts);
-    tell_targets(stdout, targets, team, ticket.n);
-}
-
-fn tell_tickets(stdout: Stdout, tickets: Tickets) {
-    let mut team: usize = 0;
-    while team < Limits::TEAMS {
-        let ticket = tickets.slots[team];
-        tell_ticket(stdout, &tickets.targets, team, ticket);
-        team += 1;
-    }
-}
-
-fn tell_reply(stdout: Stdout, returned: usize, out: &[u8]) {
-    say::text(stdout, b"returns");
-    say::number(stdout, returned as u64);
-    say::text(stdout, b" :");
-    say::bytes(stdout, out);
-    say::end(stdout);
-}
-
-// A call on so many of the words, with an output of so many of the bytes.
-fn call_on(
-    stdout: Stdout,
-    words: &mut [u64],
-    tickets: Tickets,
-    space: &mut [u8],
-    given: &[u8],
-) -> Tickets
-    requires { 10 ≤ length given.now }
-{
-    let many = at_most(read16(given, Place::BOOK) as usize, words.len());
-    let count = at_most(read16(given, Place::BESIDE) as usize, space.len());
-    let book = &mut words[0..many];
-    let out = &mut space[0..count];
-    let ranks = legs::fixed_ranks();
-    let reply = book::call(book, tickets, &ranks, &given[Place::HEAD..], out);
-    let after = reply.tickets;
-    tell_reply(stdout, reply.written, out);
-    after
-}
-
-fn called(stdout: Stdout, state: State, given: &[u8]) -> State
-    requires { 10 ≤ length given.now }
-{
-    let before = state.words;
-    let mut words = state.words;
-    let tickets = state.tickets;
-    let fill = read16(given, Place::NUMBER) % Bits::BYTE;
-    let mut space = [fill as u8; Room::OUTPUT];
-    let after = call_on(stdout, &mut words, tickets, &mut space, given);
-    tell_words(stdout, &before, &words);
-    tell_tickets(stdout, after);
-    State {
-        words: words,
-        tickets: after,
-    }
-}
-
-fn tell_clino(stdout: Stdout, clino: i16) {
-    if clino < 0 {
-        say::text(stdout, b" -");
-        say::plain(stdout, (0 - clino as i32) as u64);
-        return;
-    }
-    say::number(stdout, clino as u64);
-}
-
-fn tell_leg(stdout: Stdout, leg: Leg) {
-    let numbers = [
-        leg.passage as u64,
-        leg.stations.from as u64,
-        leg.stations.to as u64,
-        leg.measure.distance as u64,
-        leg.measure.compass as u64,
-    ];
-    say::text(stdout, b"leg");
-    say::numbers(stdout, &numbers);
-    tell_clino(stdout, leg.measure.clino);
-    say::end(stdout);
-}
-
-fn read(stdout: Stdout, carried: &[u8]) {
-    if carried.len() < Carried::READING {
-        return;
-    }
-    let reading = legs::read_leg(read64(carried, 0), read64(carried, Carried::NUMBER));
-    match reading {
-        Reading::NoLeg => say::text(stdout, b"no leg\n"),
-        Reading::Is(leg) => tell_leg(stdout, leg),
-    }
-}
-
-// What is written and leaves all as it is.
-fn tell_other(stdout: Stdout, tag: u16, carried: &[u8]) {
-    if tag == Tag::TITLE {
-        say::text(stdout, carried);
-    }
-    if tag == Tag::READ {
-        read(stdout, carried);
-    }
-}
-
-// One call; a tag that isn't known is passed over.
-fn dispatch(stdout: Stdout, state: State, given: &[u8]) -> State
-    requires { 10 ≤ length given.now }
-{
-    let tag = read16(given, Place::TAG);
-    let number = read16(given, Place::NUMBER) as usize;
-    let carried = &given[Place::HEAD..];
-    if tag == Tag::FRESH {
-        return fresh();
-    }
-    if tag == Tag::WORD {
-        return with_word(state, number, number_in(carried));
-    }
-    if tag == Tag::SLOT {
-        return with_slot(state, number, slot_in(carried));
-    }
-    if tag == Tag::TARGET {
-        return with_target(state, number, number_in(carried));
-    }
-    if tag == Tag::FRAME {
-        return called(stdout, state, given);
-    }
-    tell_other(stdout, tag, carried);
-    state
-}
-
-fn dispatch_all(stdout: Stdout, input: &[u8]) {
-    let mut state = fresh();
-    let mut at: usize = 0;
-    while at < input.len() {
-        let rest = &input[at..];
-        let count = desk::first_call(rest);
-        if count < Place::HEAD {
-            return;
+impl State {
+    fn fresh() -> State {
+        State {
+            words: [0; Room::WORDS],
+            tickets: Tickets::fresh(),
         }
-        let end = at + count;
-        state = dispatch(stdout, state, &input[at..end]);
-        at = end;
+    }
+
+    // A word that isn't lent is passed over, and so are a slot and a target that the table doesn't have.
+    fn set_word(&mut self, word: usize, carried: &[u8]) {
+        if let Some(place) = self.words.get_mut(word) {
+            *place = Records::of(carried).next().unwrap_or(0);
+        }
+    }
+
+    fn set_target(&mut self, target: usize, carried: &[u8]) {
+        if let Some(place) = self.tickets.targets.get_mut(target) {
+            *place = Records::of(carried).next().unwrap_or(0);
+        }
+    }
+
+    fn set_slot(&mut self, team: usize, carried: &[u8]) {
+        if let Some(slot) = self.tickets.slots.get_mut(team) {
+            *slot = Records::of(carried).next().unwrap_or(Ticket::none());
+        }
+    }
+
+    // A frame on so many of the words, with an output of so many of the bytes.
+    fn answer(&mut self, stdout: Stdout, call: Call<'_>) -> io::Result<()> {
+        let before = self.words;
+        let tickets = self.tickets;
+        let [fill, _] = call.number.to_le_bytes();
+        let mut space = [fill; Room::OUTPUT];
+        let many = call.book.min(Room::WORDS);
+        let count = call.beside.min(Room::OUTPUT);
+        let book = &mut self.words[..many];
+        let out = &mut space[..count];
+        let ranks = legs::fixed_ranks();
+        let reply = book::call(book, tickets, &ranks, call.carried, out);
+        self.tickets = reply.tickets;
+        let returned = reply
+            .written
+            .unwrap_or_else(|refusal| refusal.number() as usize);
+        println!(stdout; "returns {returned} :{}", Bytes(out))?;
+        text::tell_changes(stdout, &before, &self.words)?;
+        tell_tickets(stdout, &self.tickets)
+    }
+
+    fn dispatch(&mut self, stdout: Stdout, call: Call<'_>) -> io::Result<()> {
+        let Ok(tag) = Tag::try_from(call.tag) else {
+            return Ok(());
+        };
+        let number = call.number as usize;
+        let carried = call.carried;
+        match tag {
+            Tag::Title => stdout.write_all(carried)?,
+            Tag::Fresh => *self = State::fresh(),
+            Tag::Word => self.set_word(number, carried),
+            Tag::Slot => self.set_slot(number, carried),
+            Tag::Target => self.set_target(number, carried),
+            Tag::Frame => self.answer(stdout, call)?,
+            Tag::Read => read(stdout, carried)?,
+        }
+        Ok(())
     }
 }
 
-fn dispatch_input(stdin: Stdin, stdout: Stdout, buffer: &mut [u8]) {
-    let have = desk::read_full(stdin, buffer);
-    dispatch_all(stdout, &buffer[0..have]);
-}
-
-// Takes the buffer as an array, so that the length of a million zeros is known by their type and is not counted.
-fn dispatch_with(stdin: Stdin, stdout: Stdout, buffer: &mut [u8; Room::INPUT]) {
-    dispatch_input(stdin, stdout, buffer);
-}
-
-fn main(rt: HostRuntime) {
+fn main(rt: HostRuntime) -> io::Result<()> {
     let mut buffer = [0u8; Room::INPUT];
-    dispatch_with(rt.stdin(), rt.stdout(), &mut buffer);
+    let input = desk::read_full(rt.stdin(), &mut buffer);
+    let mut state = State::fresh();
+    for call in Records::of(input) {
+        state.dispatch(rt.stdout(), call)?;
+    }
+    Ok(())
 }

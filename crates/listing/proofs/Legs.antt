@@ -5,11 +5,10 @@ use mathlib.Core.List.{List, [], ◌∷◌, ◌++◌}
 use mathlib.Core.Bool.{Bool, true, false, cond}
 use native.Mathlib.Omega.{arith}
 use Rattle.words.specs.declared.LegLayout.TheVariants.{FourWords}
-use Rattle.words.specs.Words.{Words, passage_count, link_word, read_of}
+use Rattle.words.specs.Words.{Words, passage_count}
 use Rattle.plain.specs.Plain.{NumberedLeg}
-use Rattle.soundness.specs.InWords.{leg_at, legs_along, list_in, lists_from, plain_in}
+use Rattle.soundness.specs.InWords.{list_in, lists_from, plain_in}
 use Rattle.meeting.specs.Meeting.{meets, those_meeting, legs_at, listed_words}
-use Rattle.stations.proofs.Walking.{those_along, none_left}
 use Rattle.listing.specs.Listing.{two_if}
 
 listed_append : (a b : List NumberedLeg) → listed_words (a ++ b) ≡ listed_words a ++ listed_words b
@@ -17,17 +16,25 @@ unfolding listed_words
 listed_append [] b = refl
 listed_append (leg ∷ a) b = ap (λ l. leg.number ∷ leg.measure.distance ∷ l) (listed_append a b)
 
--- One leg along the links, and those after it.
-pub listed_along : (words : Words) (station left leg : ℕ) → 0 < left
-    → listed_words (those_meeting station (legs_along FourWords words left leg))
-    ≡ listed_words (those_meeting station (leg_at FourWords words leg ∷ [])) ++ listed_words (those_meeting station (legs_along FourWords words (left - 1) (read_of words (link_word leg))))
-listed_along words station left leg more =
-    ap listed_words (those_along words station left leg more)
-    ∙ listed_append (those_meeting station (leg_at FourWords words leg ∷ [])) (those_meeting station (legs_along FourWords words (left - 1) (read_of words (link_word leg))))
+-- One leg, and those after it.
+those_next : (station : ℕ) (leg : NumberedLeg) (older : List NumberedLeg) → those_meeting station (leg ∷ older) ≡ those_meeting station (leg ∷ []) ++ those_meeting station older
+unfolding those_meeting
+those_next station leg older = by (meets station leg)
+  where
+    by : (b : Bool) → cond b (leg ∷ those_meeting station older) (those_meeting station older) ≡ cond b (leg ∷ []) [] ++ those_meeting station older
+    by true = refl
+    by false = refl
 
-pub nothing_listed : (words : Words) (station left leg : ℕ) → left ≡ 0 → listed_words (those_meeting station (legs_along FourWords words left leg)) ≡ []
-unfolding listed_words
-nothing_listed words station left leg none = ap listed_words (none_left words station left leg none)
+pub listed_next : (station : ℕ) (legs : List NumberedLeg) (leg : NumberedLeg) (older : List NumberedLeg) → legs ≡ leg ∷ older
+    → listed_words (those_meeting station legs) ≡ listed_words (those_meeting station (leg ∷ [])) ++ listed_words (those_meeting station older)
+listed_next station legs leg older parted =
+    ap (λ l. listed_words (those_meeting station l)) parted
+    ∙ ap listed_words (those_next station leg older)
+    ∙ listed_append (those_meeting station (leg ∷ [])) (those_meeting station older)
+
+pub nothing_listed : (station : ℕ) (legs : List NumberedLeg) → legs ≡ [] → listed_words (those_meeting station legs) ≡ []
+unfolding listed_words those_meeting
+nothing_listed station legs none = ap (λ l. listed_words (those_meeting station l)) none
 
 -- The same of passages: the words of all from one on are those of its legs, and of the passages after it.
 pub passages_next : (words : Words) (station p : ℕ) → p < passage_count

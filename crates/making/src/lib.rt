@@ -5,48 +5,34 @@ ghost use Rattle.std.specs.Prelude.{◌≡◌, Bool, true, cond, List, map, ℕ,
 ghost use Rattle.words.specs.Tests.{occurs, all_occur, distinct};
 ghost use Rattle.words.specs.Words.{team_count, most_targets, most_named};
 ghost use Rattle.tickets.specs.Tickets.{target, targets_from, words_in, named_in, targets_in, target_well_made, all_well_made, counts_well_made, is_view, names_well_made, well_made, slot_well_made, well_made_from, stands_below};
-ghost use Rattle.tickets.specs.declared.Phase.TheVariants.{GivingBack, Viewed};
+ghost use Rattle.making.specs.Columns.{number_in};
 ghost use Rattle.tickets.specs.Table.{target_room, phase_by, target_standing, targets_of, gathered, table_of, table_with};
 
 use tickets::{Kind, Phase, Ticket, Tickets};
 use words::Limits;
 
 // Its word is in the book, and its values are no marks.
+#[tactic(auto, unfolding(words::specs::Tests::all_hold))]
 fn numbers_well_made(word: u64, quoted: u64, new: u64) -> bool
     ensures { result ≡ target_well_made (target word quoted new) }
 {
-    if word < Limits::WORDS as u64 {
-        if quoted < Limits::HELD {
-            return new < Limits::HELD;
-        }
-    }
-    false
+    word < Limits::WORDS as u64 && quoted < Limits::HELD && new < Limits::HELD
 }
 
-// The word of target k,
-fn word_at(targets: &[u64; Tickets::NUMBERS], slot: usize, k: u16) -> u64
-    requires { (slot < team_count) × (k < target_room) }
-    ensures { result ≡ (target_standing targets.now slot k).word }
-{
-    let at = Tickets::place(slot, k);
-    targets[at]
+// Which of a target's three numbers is meant, in the order in which they stand.
+#[derive(Clone, Copy)]
+enum Column {
+    Word,
+    Quoted,
+    New,
 }
 
-// its quoted value
-fn quoted_at(targets: &[u64; Tickets::NUMBERS], slot: usize, k: u16) -> u64
+// One number of target k: its word, its quoted value, or its new one, where a view has the k-th word named.
+fn number_at(targets: &[u64; Tickets::NUMBERS], slot: usize, k: u16, column: Column) -> u64
     requires { (slot < team_count) × (k < target_room) }
-    ensures { result ≡ (target_standing targets.now slot k).quoted }
+    ensures { result ≡ number_in column (target_standing targets.now slot k) }
 {
-    let at = Tickets::place(slot, k) + 1;
-    targets[at]
-}
-
-// and its new one, where a view has the k-th word named.
-fn new_at(targets: &[u64; Tickets::NUMBERS], slot: usize, k: u16) -> u64
-    requires { (slot < team_count) × (k < target_room) }
-    ensures { result ≡ (target_standing targets.now slot k).new }
-{
-    let at = Tickets::place(slot, k) + 2;
+    let at = Tickets::place(slot, k) + column as usize;
     targets[at]
 }
 
@@ -54,9 +40,9 @@ fn target_well_made(targets: &[u64; Tickets::NUMBERS], slot: usize, k: u16) -> b
     requires { (slot < team_count) × (k < target_room) }
     ensures { result ≡ target_well_made (target_standing targets.now slot k) }
 {
-    let word = word_at(targets, slot, k);
-    let quoted = quoted_at(targets, slot, k);
-    let new = new_at(targets, slot, k);
+    let word = number_at(targets, slot, k, Column::Word);
+    let quoted = number_at(targets, slot, k, Column::Quoted);
+    let new = number_at(targets, slot, k, Column::New);
     numbers_well_made(word, quoted, new)
 }
 
@@ -65,27 +51,30 @@ pub fn targets_well_made(targets: &[u64; Tickets::NUMBERS], slot: usize, n: u16)
     requires { (slot < team_count) × (n ≤ most_targets) }
     ensures { result ≡ all_well_made (targets_in (targets_of targets.now slot n)) }
 {
-    let mut k: u16 = 0;
-    while k < n {
+    for k in 0..n {
         if !target_well_made(targets, slot, k) {
             return false;
         }
-        k += 1;
     }
     true
 }
 
-// Whether a word is one of the targets.
-fn is_target(targets: &[u64; Tickets::NUMBERS], slot: usize, n: u16, word: u64) -> bool
+// Whether a number stands in a column from target `from` on.
+fn stands_from(
+    targets: &[u64; Tickets::NUMBERS],
+    slot: usize,
+    column: Column,
+    from: u16,
+    n: u16,
+    number: u64,
+) -> bool
     requires { (slot < team_count) × (n ≤ most_targets) }
-    ensures { result ≡ occurs word (words_in (targets_of targets.now slot n)) }
+    ensures { result ≡ occurs number (map (number_in column) (targets_from from (n - from) (targets_of targets.now slot n))) }
 {
-    let mut k: u16 = 0;
-    while k < n {
-        if word_at(targets, slot, k) == word {
+    for k in from..n {
+        if number_at(targets, slot, k, column) == number {
             return true;
         }
-        k += 1;
     }
     false
 }
@@ -95,36 +84,13 @@ pub fn names_targets(targets: &[u64; Tickets::NUMBERS], slot: usize, n: u16) -> 
     requires { (slot < team_count) × (n ≤ most_targets) }
     ensures { result ≡ all_occur (named_in (targets_of targets.now slot n)) (words_in (targets_of targets.now slot n)) }
 {
-    let mut k: u16 = 0;
-    while k < n {
-        let word = new_at(targets, slot, k);
-        if !is_target(targets, slot, n, word) {
+    for k in 0..n {
+        let word = number_at(targets, slot, k, Column::New);
+        if !stands_from(targets, slot, Column::Word, 0, n, word) {
             return false;
         }
-        k += 1;
     }
     true
-}
-
-// Whether a word is named from target `from` on.
-fn is_named_from(
-    targets: &[u64; Tickets::NUMBERS],
-    slot: usize,
-    from: u16,
-    n: u16,
-    word: u64,
-) -> bool
-    requires { (slot < team_count) × (n ≤ most_targets) }
-    ensures { result ≡ occurs word (map (λ target. target.new) (targets_from from (n - from) (targets_of targets.now slot n))) }
-{
-    let mut k = from;
-    while k < n {
-        if new_at(targets, slot, k) == word {
-            return true;
-        }
-        k += 1;
-    }
-    false
 }
 
 // Whether no word is named twice.
@@ -132,38 +98,17 @@ pub fn names_distinct(targets: &[u64; Tickets::NUMBERS], slot: usize, n: u16) ->
     requires { (slot < team_count) × (n ≤ most_targets) }
     ensures { result ≡ distinct (named_in (targets_of targets.now slot n)) }
 {
-    let mut k: u16 = 0;
-    while k < n {
-        let word = new_at(targets, slot, k);
-        if is_named_from(targets, slot, k + 1, n, word) {
+    for k in 0..n {
+        let word = number_at(targets, slot, k, Column::New);
+        if stands_from(targets, slot, Column::New, k + 1, n, word) {
             return false;
         }
-        k += 1;
     }
     true
 }
 
-// What is given back of an edit found stale: fewer than were claimed, and those not all.
-fn stale_counts_fit(n: u16, claimed: u16, done: u16) -> bool
-    ensures { result ≡ counts_well_made GivingBack n claimed done }
-{
-    if done < claimed {
-        return claimed < n;
-    }
-    false
-}
-
-// What a view gives back: all are claimed.
-fn view_counts_fit(n: u16, claimed: u16, done: u16) -> bool
-    ensures { result ≡ counts_well_made Viewed n claimed done }
-{
-    if done < claimed {
-        return claimed == n;
-    }
-    false
-}
-
 // The counts are those of the phase.
+#[tactic(auto, unfolding(words::specs::Tests::all_hold))]
 fn counts_fit(phase: Phase, n: u16, claimed: u16, done: u16) -> bool
     ensures { result ≡ counts_well_made phase n claimed done }
 {
@@ -171,9 +116,11 @@ fn counts_fit(phase: Phase, n: u16, claimed: u16, done: u16) -> bool
         Phase::NoTicket => false,
         Phase::Claiming => claimed < n,
         Phase::Putting => done < n,
-        Phase::GivingBack => stale_counts_fit(n, claimed, done),
+        // What is given back of an edit found stale: fewer than were claimed, and those not all.
+        Phase::GivingBack => done < claimed && claimed < n,
         Phase::Viewing => claimed < n,
-        Phase::Viewed => view_counts_fit(n, claimed, done),
+        // What a view gives back: all are claimed.
+        Phase::Viewed => done < claimed && claimed == n,
     }
 }
 
@@ -250,13 +197,10 @@ pub fn slot_well_made(targets: &[u64; Tickets::NUMBERS], slot: usize, ticket: Ti
 pub fn all_well_made(slots: [Ticket; Limits::TEAMS], targets: &[u64; Tickets::NUMBERS]) -> bool
     ensures { result ≡ well_made_from 0 team_count (table_of (table_with slots targets.now)) }
 {
-    let mut team: usize = 0;
-    while team < Limits::TEAMS {
-        let ticket = slots[team];
-        if !slot_well_made(targets, team, ticket) {
+    for (team, ticket) in slots.iter().enumerate() {
+        if !slot_well_made(targets, team, *ticket) {
             return false;
         }
-        team += 1;
     }
     true
 }
@@ -265,13 +209,5 @@ pub fn all_well_made(slots: [Ticket; Limits::TEAMS], targets: &[u64; Tickets::NU
 pub fn any_stands(slots: [Ticket; Limits::TEAMS]) -> bool
     ensures { (targets : List ℕ) → result ≡ stands_below team_count (table_of (table_with slots targets)) }
 {
-    let mut team: usize = Limits::TEAMS;
-    while 0 < team {
-        team -= 1;
-        let ticket = slots[team];
-        if ticket.stands() {
-            return true;
-        }
-    }
-    false
+    slots.iter().any(|ticket| ticket.stands())
 }

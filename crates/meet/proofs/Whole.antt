@@ -1,10 +1,11 @@
 -- The whole list, part by part: the number of legs, the legs, the number of pairs, the pairs.
+use Rattle.std.specs.Prelude.{Ok, Err}
 use Prim.Native.Nat.{ℕ, ◌+◌, ◌≤◌, ◌<◌}
 use mathlib.Core.Path.{◌≡◌, refl, sym, ap, ◌∙◌}
 use mathlib.Core.List.{List, [], ◌∷◌, ◌++◌, append-nil}
 use mathlib.Core.Bool.{true}
 use native.Mathlib.Omega.{arith}
-use lib.ListN.{length, set, drop}
+use lib.ListN.{length, drop}
 use lib.Seq.{sets-eq}
 use borrow.Author.Tests.{lt-ltb, le-ltb}
 use Rattle.words.specs.declared.LegLayout.TheVariants.{FourWords}
@@ -12,7 +13,6 @@ use Rattle.words.specs.Words.{Words, words_in_book}
 use Rattle.plain.specs.Plain.{Plain}
 use Rattle.soundness.specs.Checking.{is_sound}
 use Rattle.soundness.specs.InWords.{plain_in}
-use Rattle.meeting.specs.declared.Met.TheVariants.{Written, Refused}
 use Rattle.meeting.specs.Meeting.{legs_at, pairs_of, listed_words, pair_words, station_words, station_list, at_front, meeting_of}
 use Rattle.meeting.specs.Statements.{longest_list}
 use Rattle.meeting.proofs.Telling.{sound_written}
@@ -47,46 +47,39 @@ module _ (station : ℕ) (plain : Plain) (counts : List ℕ) (size : Size) (coun
 
   module _ (out : Words) (room : list_length size ≤ length out) where
     -- The number of legs is written.
-    pub legs_next : Continues (set out 0 size.legs) 1 (listed_words (legs_at station plain) ++ (size.pairs ∷ pair_words (pairs_of (present_from 0 counts)))) out 0 (station_words station plain)
-    unfolding legs_part pairs_part
-    legs_next = goes_on_lem out 0 _ out 0 _ (begins out 0 (station_words station plain) (omega (arith, room, list_length_lem))) (size.legs ∷ []) _ list_parts 1 (set out 0 size.legs) refl
+    module _ (at₁ : ℕ) (out₁ : Words) (number_written : (at₁, out₁) ≡ wrote out 0 (size.legs ∷ [])) where
+      pub legs_next : Continues out₁ at₁ (listed_words (legs_at station plain) ++ (size.pairs ∷ pair_words (pairs_of (present_from 0 counts)))) out 0 (station_words station plain)
+      unfolding legs_part pairs_part
+      legs_next = goes_on_lem out 0 _ out 0 _ (begins out 0 (station_words station plain) (omega (arith, room, list_length_lem))) (size.legs ∷ []) _ list_parts at₁ out₁ number_written
 
-    module _ (at : ℕ) (later : Words) (legs_written : (at, later) ≡ wrote (set out 0 size.legs) 1 (listed_words (legs_at station plain))) where
       -- The legs are.
-      pub pairs_number_next : Continues later at (size.pairs ∷ pair_words (pairs_of (present_from 0 counts))) out 0 (station_words station plain)
-      pairs_number_next = goes_on_lem _ _ _ _ _ _ legs_next (listed_words (legs_at station plain)) _ refl at later legs_written
+      module _ (at₂ : ℕ) (out₂ : Words) (legs_written : (at₂, out₂) ≡ wrote out₁ at₁ (listed_words (legs_at station plain))) where
+        pub pairs_number_next : Continues out₂ at₂ (size.pairs ∷ pair_words (pairs_of (present_from 0 counts))) out 0 (station_words station plain)
+        pairs_number_next = goes_on_lem _ _ _ _ _ _ legs_next (listed_words (legs_at station plain)) _ refl at₂ out₂ legs_written
 
-      -- The number of pairs is.
-      pub pairs_next : Continues (set later at size.pairs) (at + 1) (pair_words (pairs_of (present_from 0 counts))) out 0 (station_words station plain)
-      pairs_next = goes_on_lem _ _ _ _ _ _ pairs_number_next (size.pairs ∷ []) _ refl (at + 1) (set later at size.pairs) refl
+        -- The number of pairs is.
+        module _ (at₃ : ℕ) (out₃ : Words) (pairs_number_written : (at₃, out₃) ≡ wrote out₂ at₂ (size.pairs ∷ [])) where
+          pub pairs_next : Continues out₃ at₃ (pair_words (pairs_of (present_from 0 counts))) out 0 (station_words station plain)
+          pairs_next = goes_on_lem _ _ _ _ _ _ pairs_number_next (size.pairs ∷ []) _ refl at₃ out₃ pairs_number_written
 
-      -- The pairs are, and nothing is left.
-      none_next : (r : ℕ) (last : Words) → (r, last) ≡ wrote (set later at size.pairs) (at + 1) (pair_words (pairs_of (present_from 0 counts)))
-          → Continues last r [] out 0 (station_words station plain)
-      none_next r last pairs_written =
-          let pairs = pair_words (pairs_of (present_from 0 counts)) in
-          goes_on_lem _ _ _ _ _ _ pairs_next pairs [] (sym (append-nil pairs)) r last pairs_written
-
-      pub list_long : (r : ℕ) (last : Words) → (r, last) ≡ wrote (set later at size.pairs) (at + 1) (pair_words (pairs_of (present_from 0 counts))) → length last ≡ length out
-      list_long r last pairs_written = (none_next r last pairs_written).long
-
-      -- So the whole is written.
-      pub list_written : (r : ℕ) (last : Words) → (r, last) ≡ wrote (set later at size.pairs) (at + 1) (pair_words (pairs_of (present_from 0 counts)))
-          → (r ≡ length (station_words station plain)) × (last ≡ at_front out (station_words station plain))
-      list_written r last pairs_written =
-          let done = all_written_lem _ _ _ _ _ _ (none_next r last pairs_written) refl in
-          let list = station_words station plain in
-          let zero_more : 0 + length list ≡ length list = omega arith in (
-            ap (λ (told : ℕ × Words). told.0) done ∙ zero_more,
-            ap (λ (told : ℕ × Words). told.1) done ∙ sets-eq list out 0 (omega (arith, room, list_length_lem)) ∙ ap (λ (n : ℕ). list ++ drop n out) zero_more,
-          )
+          -- The pairs are, and so the whole is written.
+          pub list_written : (r : ℕ) (last : Words) → (r, last) ≡ wrote out₃ at₃ (pair_words (pairs_of (present_from 0 counts)))
+              → (r ≡ length (station_words station plain)) × (last ≡ at_front out (station_words station plain))
+          list_written r last pairs_written =
+              let pairs = pair_words (pairs_of (present_from 0 counts)) in
+              let done = all_written_lem _ _ _ _ _ _ (goes_on_lem _ _ _ _ _ _ pairs_next pairs [] (sym (append-nil pairs)) r last pairs_written) refl in
+              let list = station_words station plain in
+              let zero_more : 0 + length list ≡ length list = omega arith in (
+                ap (λ (told : ℕ × Words). told.0) done ∙ zero_more,
+                ap (λ (told : ℕ × Words). told.1) done ∙ sets-eq list out 0 (omega (arith, room, list_length_lem)) ∙ ap (λ (n : ℕ). list ++ drop n out) zero_more,
+              )
 
 -- The answer over a sound book, by whether its list has room.
 module _ (words : Words) (station : ℕ) (out : Words) (whole : length words ≡ words_in_book) (sound : is_sound words ≡ true) where
-  pub refused_21 : length out < length (station_list words station) → meeting_of words station out ≡ (Refused 21, out)
+  pub refused_21 : length out < length (station_list words station) → meeting_of words station out ≡ (Err 21, out)
   refused_21 short = sound_written words station out whole sound ∙ rw (lt-ltb (length out) (length (station_list words station)) short)
 
-  pub list_out : length (station_list words station) ≤ length out → meeting_of words station out ≡ (Written (length (station_list words station)), at_front out (station_list words station))
+  pub list_out : length (station_list words station) ≤ length out → meeting_of words station out ≡ (Ok (length (station_list words station)), at_front out (station_list words station))
   list_out long = sound_written words station out whole sound ∙ rw (le-ltb (length out) (length (station_list words station)) long)
 
 -- The words of the list of a sound book are few.

@@ -4,54 +4,56 @@
 ghost use Rattle.std.specs.Prelude.{◌≡◌, ◌≤◌, length};
 ghost use Rattle.words.specs.declared.LegLayout.TheVariants.{FourWords};
 ghost use Rattle.soundness.specs.InWords.{plain_in};
+ghost use Rattle.frames.specs.Refusals.{numbered};
 ghost use Rattle.meeting.specs.Meeting.{station_list, at_front, meeting_of};
-ghost use Rattle.stations.specs.Counting.{SoundBook, counts_at, size_of, list_length};
+ghost use Rattle.stations.specs.Counting.{counts_at, size_of, list_length};
 
 use frames::Refusal;
-use listing::{write_legs, write_pairs};
-use meeting::Met;
+use listing::{Output, write_legs, write_pairs};
 use sound::is_plain;
-use stations::{Size, counts_at, size_of};
+use stations::{Size, SoundBook, counts_at, size_of};
 use words::Limits;
 
 // Writes the whole list, for which the output has room, and returns its length.
 fn write_list(
-    book: &[u64],
+    book: SoundBook,
     station: u16,
     counts: [usize; Limits::PASSAGES as usize],
     size: Size,
     out: &mut [u64],
 ) -> usize
-    requires { ((SoundBook book.now × (counts ≡ counts_at station (plain_in FourWords book.now))) × (size ≡ size_of counts)) × (list_length size ≤ length out.old) }
-    ensures { (result ≡ length (station_list book.now station)) × (out.new ≡ at_front out.old (station_list book.now station)) }
+    requires { (counts ≡ counts_at station (plain_in FourWords book.words.now)) × (size ≡ size_of counts) × (list_length size ≤ length out.old) }
+    ensures { (result ≡ length (station_list book.entry.words.now station)) × (out.new ≡ at_front out.old (station_list book.entry.words.now station)) }
 {
+    let mut list = Output { words: out, at: 0 };
     let legs = size.legs;
-    out[0] = legs as u64;
-    let at = write_legs(book, station, out, 1);
+    list.put(legs as u64);
+    write_legs(book, station, &mut list);
     let pairs = size.pairs;
-    out[at] = pairs as u64;
-    write_pairs(counts, out, at + 1)
+    list.put(pairs as u64);
+    write_pairs(counts, &mut list);
+    list.at
 }
 
 // Lists the legs at a station and the pairs of passages that meet there, unless it is refused. How long the list is, is
 // known by its counts before the first word is written. Each leg is read once by the check, once to be counted and once
 // to be written.
-pub fn meet(book: &[u64], station: u16, out: &mut [u64]) -> Met
-    ensures { (result, out.new) ≡ meeting_of book.now station out.old }
+pub fn meet(book: &[u64], station: u16, out: &mut [u64]) -> Result<usize, Refusal>
+    ensures { (numbered result, out.new) ≡ meeting_of book.now station out.old }
 {
-    if book.len() != Limits::WORDS {
-        let number = Refusal::BOOK as u16;
-        return Met::Refused(number);
+    let Some(whole) = book.as_array::<{ Limits::WORDS }>() else {
+        return Err(Refusal::Book);
+    };
+    if !is_plain(whole) {
+        return Err(Refusal::Unsound);
     }
-    if !is_plain(book) {
-        return Met::Refused(Refusal::UNSOUND);
-    }
-    let counts = counts_at(book, station);
+    let sound = SoundBook { words: whole };
+    let counts = counts_at(sound, station);
     let size = size_of(counts);
     let words = Size::NUMBERS + Size::ENTRY * (size.legs + size.pairs);
     if out.len() < words {
-        return Met::Refused(Refusal::LIST);
+        return Err(Refusal::List);
     }
-    let end = write_list(book, station, counts, size, out);
-    Met::Written(end)
+    let end = write_list(sound, station, counts, size, out);
+    Ok(end)
 }

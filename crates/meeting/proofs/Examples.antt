@@ -1,4 +1,5 @@
 -- The list of a station computed on a small book.
+use Rattle.std.specs.Prelude.{Ok, Err}
 use Prim.Native.Nat.{ℕ}
 use mathlib.Core.Path.{◌≡◌, refl}
 use mathlib.Core.List.{[], ◌∷◌, ◌++◌}
@@ -11,7 +12,6 @@ use Rattle.words.specs.declared.LegLayout.TheVariants.{FourWords}
 use Rattle.words.specs.Words.{Words}
 use Rattle.plain.specs.Plain.{NumberedLeg}
 use Rattle.soundness.specs.InWords.{leg_at, lists_from, plain_in}
-use Rattle.meeting.specs.declared.Met.TheVariants.{Written, Refused}
 use Rattle.meeting.specs.Meeting.{meets, those_meeting, legs_at, passages_from, pairs_of, pair, listed_words, pair_words, station_words, station_list}
 use Rattle.meeting.specs.Statements.{writing, ListedBefore, times_paired}
 
@@ -81,11 +81,11 @@ unfolding everything
 pairs_counted = refl
 
 -- Exactly long enough, one too short, and longer: words after these stay.
-just_enough : writing (7 ∷ 7 ∷ []) (0 ∷ 0 ∷ []) ≡ (Written 2, 0 ∷ 0 ∷ [])
+just_enough : writing (7 ∷ 7 ∷ []) (0 ∷ 0 ∷ []) ≡ (Ok 2, 0 ∷ 0 ∷ [])
 just_enough = refl
 
-too_short : writing (7 ∷ []) (0 ∷ 0 ∷ []) ≡ (Refused 21, 7 ∷ [])
+too_short : writing (7 ∷ []) (0 ∷ 0 ∷ []) ≡ (Err 21, 7 ∷ [])
 too_short = refl
 
-words_stay : writing (7 ∷ 7 ∷ 7 ∷ []) (0 ∷ 0 ∷ []) ≡ (Written 2, 0 ∷ 0 ∷ 7 ∷ [])
+words_stay : writing (7 ∷ 7 ∷ 7 ∷ []) (0 ∷ 0 ∷ []) ≡ (Ok 2, 0 ∷ 0 ∷ 7 ∷ [])
 words_stay = refl

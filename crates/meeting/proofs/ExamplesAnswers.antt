@@ -1,4 +1,5 @@
 -- What the call answers over the small book, and over books that are refused.
+use Rattle.std.specs.Prelude.{Ok, Err}
 use mathlib.Core.Path.{◌≡◌, refl, ap, ◌∙◌}
 use mathlib.Core.List.{[], ◌∷◌}
 use mathlib.Core.Bool.{true}
@@ -13,7 +14,6 @@ use Rattle.legs.specs.Reading.{is_place, is_measure, reading_of}
 use Rattle.soundness.specs.Checking.{may_follow, walk, walk_passage, walk_below, used_or_zero, rest_zero, is_sound}
 use Rattle.soundness.proofs.Walking.{sound_off}
 use Rattle.soundness.proofs.Zeros.{zeros_after}
-use Rattle.meeting.specs.declared.Met.TheVariants.{Written, Refused}
 use Rattle.meeting.specs.Meeting.{meeting_of}
 use Rattle.meeting.specs.Statements.{writing, longest_list}
 use Rattle.meeting.proofs.Examples.{front, small, at_2}
@@ -36,21 +36,21 @@ small_rest = refl
 small_sound : is_sound small ≡ true
 small_sound = zeros_after FourWords front 4020 (2 ∷ 1 ∷ 3 ∷ []) 3 1005 refl (omega arith) small_walked small_rest
 
-written_at_2 : meeting_of small 2 (replicate 12 7) ≡ (Written 10, 3 ∷ 3 ∷ 5000 ∷ 1 ∷ 5000 ∷ 2 ∷ 5000 ∷ 1 ∷ 0 ∷ 5 ∷ 7 ∷ 7 ∷ [])
+written_at_2 : meeting_of small 2 (replicate 12 7) ≡ (Ok 10, 3 ∷ 3 ∷ 5000 ∷ 1 ∷ 5000 ∷ 2 ∷ 5000 ∷ 1 ∷ 0 ∷ 5 ∷ 7 ∷ 7 ∷ [])
 written_at_2 = sound_written small 2 (replicate 12 7) refl small_sound ∙ ap (writing (replicate 12 7)) at_2
 
-refused_at_2 : meeting_of small 2 (replicate 9 7) ≡ (Refused 21, replicate 9 7)
+refused_at_2 : meeting_of small 2 (replicate 9 7) ≡ (Err 21, replicate 9 7)
 refused_at_2 = sound_written small 2 (replicate 9 7) refl small_sound ∙ ap (writing (replicate 9 7)) at_2
 
 -- A book of another length gives 1, and one with a mark 15, both with no output at all.
-no_book : meeting_of (0 ∷ small) 2 [] ≡ (Refused 1, [])
+no_book : meeting_of (0 ∷ small) 2 [] ≡ (Err 1, [])
 no_book = refused_1 (0 ∷ small) 2 [] (λ e. omega (arith, e))
 
 marked_walked : walk_below FourWords (set small 0 (mark_of 3)) passage_count ≡ none
 unfolding the_check
 marked_walked = refl
 
-marked : meeting_of (set small 0 (mark_of 3)) 2 [] ≡ (Refused 15, [])
+marked : meeting_of (set small 0 (mark_of 3)) 2 [] ≡ (Err 15, [])
 marked = refused_15 (set small 0 (mark_of 3)) 2 [] refl (sound_off FourWords (set small 0 (mark_of 3)) marked_walked)
 
 longest : longest_list ≡ 3010

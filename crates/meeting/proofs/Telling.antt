@@ -1,4 +1,5 @@
 -- Over the words of a plain book the call writes that book's list, and over other words it is refused.
+use Rattle.std.specs.Prelude.{Ok, Err}
 use Prim.Native.Nat.{ℕ}
 use mathlib.Core.Path.{◌≡◌, refl, ap, ◌∙◌}
 use mathlib.Core.List.{[], ◌∷◌}
@@ -13,33 +14,32 @@ use Rattle.soundness.specs.Checking.{is_sound}
 use Rattle.soundness.specs.Soundness.{OfSomePlainBook}
 use Rattle.soundness.proofs.Soundness.{sound_exactly}
 use Rattle.soundness.proofs.Telling.{words_tell_lists}
-use Rattle.meeting.specs.declared.Met.TheVariants.{Written, Refused}
 use Rattle.meeting.specs.Meeting.{station_words, station_list, list_too_long, at_front, meeting_checks, meeting_refusal, met_by, meeting_of}
 use Rattle.meeting.specs.Statements.{writing, MeetingOfPlainBook, OtherBooksRefused}
 
 -- The call, by its three tests.
 by_tests : (words : Words) (station : ℕ) (out : Words)
     → meeting_of words station out
-    ≡ cond (book_length_wrong words) (Refused 1, out) (cond (not (is_sound words)) (Refused 15, out) (writing out (station_list words station)))
+    ≡ cond (book_length_wrong words) (Err 1, out) (cond (not (is_sound words)) (Err 15, out) (writing out (station_list words station)))
 unfolding meeting_of meeting_refusal meeting_checks
 by_tests words station out = by (book_length_wrong words) (not (is_sound words)) (station_list words station)
   where
     by : (wrong unsound : Bool) (list : Words)
-        → met_by (first_of (check 1 wrong ∷ check 15 unsound ∷ check 21 (list_too_long out list) ∷ [])) list out ≡ cond wrong (Refused 1, out) (cond unsound (Refused 15, out) (writing out list))
+        → met_by (first_of (check 1 wrong ∷ check 15 unsound ∷ check 21 (list_too_long out list) ∷ [])) list out ≡ cond wrong (Err 1, out) (cond unsound (Err 15, out) (writing out list))
     by true unsound list = refl
     by false true list = refl
     by false false list = fits (list_too_long out list)
       where
         fits : (short : Bool)
-            → met_by (first_of (check 1 false ∷ check 15 false ∷ check 21 short ∷ [])) list out ≡ cond short (Refused 21, out) (Written (length list), at_front out list)
+            → met_by (first_of (check 1 false ∷ check 15 false ∷ check 21 short ∷ [])) list out ≡ cond short (Err 21, out) (Ok (length list), at_front out list)
         fits true = refl
         fits false = refl
 
 module _ (words : Words) (station : ℕ) (out : Words) where
-  pub refused_1 : length words ≢ words_in_book → meeting_of words station out ≡ (Refused 1, out)
+  pub refused_1 : length words ≢ words_in_book → meeting_of words station out ≡ (Err 1, out)
   refused_1 n = by_tests words station out ∙ rw (ne_eqb (length words) words_in_book n)
 
-  pub refused_15 : length words ≡ words_in_book → is_sound words ≡ false → meeting_of words station out ≡ (Refused 15, out)
+  pub refused_15 : length words ≡ words_in_book → is_sound words ≡ false → meeting_of words station out ≡ (Err 15, out)
   refused_15 whole e = by_tests words station out ∙ rw (eq-eqb (length words) words_in_book whole, e)
 
   pub sound_written : length words ≡ words_in_book → is_sound words ≡ true → meeting_of words station out ≡ writing out (station_list words station)

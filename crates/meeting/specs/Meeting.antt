@@ -1,5 +1,5 @@
 -- Request 13, "Where passages meet": the legs at a station, the pairs of passages that meet there, and the words that tell them.
-use Rattle.std.specs.Prelude.{ℕ, ◌+◌, List, [], ◌∷◌, ◌++◌, map, Bool, true, false, cond, not, length, drop, eqb, ltb}
+use Rattle.std.specs.Prelude.{ℕ, ◌+◌, List, [], ◌∷◌, ◌++◌, map, Bool, true, false, cond, not, length, drop, eqb, ltb, Result, Ok, Err}
 use Rattle.std.proofs.Math.Option.{Option, none, some}
 use Rattle.words.specs.Tests.{some_holds}
 use Rattle.words.specs.declared.LegLayout.TheVariants.{FourWords}
@@ -8,8 +8,6 @@ use Rattle.plain.specs.Plain.{Plain, NumberedLeg}
 use Rattle.calls.specs.Call.{Check, check, first_of, book_length_wrong}
 use Rattle.soundness.specs.Checking.{is_sound}
 use Rattle.soundness.specs.InWords.{plain_in}
-use Rattle.meeting.specs.declared.Met.{Met}
-use Rattle.meeting.specs.declared.Met.TheVariants.{Written, Refused}
 
 -- "Every leg that has it as from or to": a leg meets a station.
 abbrev pub meets : ℕ → NumberedLeg → Bool
@@ -95,9 +93,9 @@ abbrev pub at_front : Words → Words → Words
 at_front out list = list ++ drop (length list) out
 
 -- What the call returns, and the output after it; of a refused one "nothing is written".
-abbrev pub met_by : Option ℕ → Words → Words → Met × Words
-met_by none list out = (Written (length list), at_front out list)
-met_by (some refusal) list out = (Refused refusal, out)
+abbrev pub met_by : Option ℕ → Words → Words → Result ℕ ℕ × Words
+met_by none list out = (Ok (length list), at_front out list)
+met_by (some refusal) list out = (Err refusal, out)
 
-unfoldable pub meeting_of : Words → ℕ → Words → Met × Words
+unfoldable pub meeting_of : Words → ℕ → Words → Result ℕ ℕ × Words
 meeting_of words station out = met_by (meeting_refusal words station out) (station_list words station) out

@@ -1,17 +1,15 @@
 -- What is claimed of the list of a station.
-use Rattle.std.specs.Prelude.{ℕ, ◌+◌, ◌*◌, ◌-◌, ◌<◌, ◌≤◌, ◌≡◌, List, [], ◌∷◌, ◌++◌, true, cond, ◌⊎◌, ◌↔◌, ◌≢◌, length, get_or, eqb, ltb}
+use Rattle.std.specs.Prelude.{ℕ, ◌+◌, ◌*◌, ◌-◌, ◌<◌, ◌≤◌, ◌≡◌, List, [], ◌∷◌, ◌++◌, true, cond, ◌⊎◌, ◌↔◌, ◌≢◌, length, get_or, eqb, ltb, Result, Ok, Err}
 use Rattle.words.specs.Tests.{all_hold}
 use Rattle.words.specs.declared.LegLayout.TheVariants.{FourWords}
 use Rattle.words.specs.Words.{Words, words_in_book, passage_count, last_leg, read_of}
 use Rattle.plain.specs.Plain.{Plain, NumberedLeg, list_of, times_in, times_below, Sound}
 use Rattle.soundness.specs.Soundness.{WordsOf, OfSomePlainBook}
-use Rattle.meeting.specs.declared.Met.{Met}
-use Rattle.meeting.specs.declared.Met.TheVariants.{Written, Refused}
 use Rattle.meeting.specs.Meeting.{meets, legs_at, any_meets, Pair, pair, passages_at, pairs_of, station_words, list_too_long, at_front, meeting_of}
 
 -- A list is written where the output has room for it, and else nothing.
-abbrev pub writing : Words → Words → Met × Words
-writing out list = cond (list_too_long out list) (Refused 21, out) (Written (length list), at_front out list)
+abbrev pub writing : Words → Words → Result ℕ ℕ × Words
+writing out list = cond (list_too_long out list) (Err 21, out) (Ok (length list), at_front out list)
 
 -- Statement: over the words of a plain book the call writes that book's list, whatever book it is.
 abbrev pub MeetingOfPlainBook : Type 0
@@ -24,8 +22,8 @@ MeetingOfPlainBook =
 abbrev pub OtherBooksRefused : Type 0
 OtherBooksRefused =
     (words out : Words) (station : ℕ)
-    → (length words ≢ words_in_book → meeting_of words station out ≡ (Refused 1, out))
-    × (length words ≡ words_in_book → ¬ OfSomePlainBook FourWords words → meeting_of words station out ≡ (Refused 15, out))
+    → (length words ≢ words_in_book → meeting_of words station out ≡ (Err 1, out))
+    × (length words ≡ words_in_book → ¬ OfSomePlainBook FourWords words → meeting_of words station out ≡ (Err 15, out))
 
 -- Statement: a leg meets a station exactly where it "has it as from or to".
 abbrev pub MeetsByFromOrTo : Type 0

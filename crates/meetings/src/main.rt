@@ -10,12 +10,31 @@
 // output's room than those written has changed.
 #![tactic(auto)]
 
-ghost use Rattle.std.specs.Prelude.{◌≤◌, length};
+use desk::Room;
+use desk::records::{Call, Records, UnknownTag};
+use desk::text::Numbers;
+use frames::Refusal;
+use std::io;
+use std::io::{Print, Stdout};
 
-use desk::{Place, Room, at_most, say};
-use frames::numbers::read16;
-use meeting::Met;
-use std::io::{Stdin, Stdout};
+enum Tag {
+    Begin,
+    Change,
+    Meet,
+}
+
+impl TryFrom<u16> for Tag {
+    type Error = UnknownTag;
+
+    fn try_from(tag: u16) -> Result<Tag, UnknownTag> {
+        match tag {
+            0 => Ok(Tag::Begin),
+            1 => Ok(Tag::Change),
+            2 => Ok(Tag::Meet),
+            _ => Err(UnknownTag(tag)),
+        }
+    }
+}
 
 #[derive(Drop)]
 struct Output {}
@@ -25,143 +44,71 @@ impl Output {
     const WORDS: usize = 3072;
 
     // What stands in each word before a call.
-    const FORMER: u64 = 18446744073709551615;
+    const FORMER: u64 = u64::MAX;
 }
 
-#[derive(Drop)]
-struct Tag {}
-
-impl Tag {
-    const BEGIN: u16 = 0;
-
-    const CHANGE: u16 = 1;
-
-    const MEET: u16 = 2;
-}
-
-fn is_former(words: &[u64]) -> bool {
-    let mut i: usize = 0;
-    while i < words.len() {
-        if words[i] != Output::FORMER {
-            return false;
-        }
-        i += 1;
-    }
-    true
-}
-
-// The end of a line: what stands in these words is as it was, or not.
-fn tell_others(stdout: Stdout, others: &[u64]) {
-    if !is_former(others) {
-        say::text(stdout, b" spoiled");
-    }
-    say::end(stdout);
-}
-
-fn tell_written(stdout: Stdout, space: &[u64], written: usize) {
-    let count = at_most(written, space.len());
-    say::text(stdout, b"written");
-    say::number(stdout, written as u64);
-    say::numbers(stdout, &space[0..count]);
-    tell_others(stdout, &space[count..]);
-}
-
-fn tell_refused(stdout: Stdout, space: &[u64], number: u16) {
-    say::text(stdout, b"refused");
-    say::number(stdout, number as u64);
-    tell_others(stdout, space);
-}
-
-fn tell(stdout: Stdout, met: Met, space: &[u64]) {
+// Tells the words written, or the refusal; what comes back is the words that have to be as they were.
+fn tell_met(stdout: Stdout, met: Result<usize, Refusal>, space: &[u64]) -> io::Result<&[u64]> {
     match met {
-        Met::Written(written) => tell_written(stdout, space, written),
-        Met::Refused(number) => tell_refused(stdout, space, number),
-    }
-}
-
-fn meet_lent(words: &[u64], space: &mut [u64], given: &[u8]) -> Met
-    requires { 10 ≤ length given.now }
-{
-    let many = at_most(read16(given, Place::BOOK) as usize, words.len());
-    let count = at_most(read16(given, Place::BESIDE) as usize, space.len());
-    let station = read16(given, Place::NUMBER);
-    let out = &mut space[0..count];
-    meet::meet(&words[0..many], station, out)
-}
-
-fn list_station(stdout: Stdout, words: &[u64], space: &mut [u64], given: &[u8])
-    requires { 10 ≤ length given.now }
-{
-    desk::fill_words(space, Output::FORMER);
-    let met = meet_lent(words, space, given);
-    tell(stdout, met, space);
-}
-
-fn dispatch(
-    stdout: Stdout,
-    words: &mut [u64; Room::WORDS],
-    space: &mut [u64; Output::WORDS],
-    given: &[u8],
-)
-    requires { 10 ≤ length given.now }
-{
-    let tag = read16(given, Place::TAG);
-    if tag == Tag::BEGIN {
-        desk::fill_words(words, 0);
-        desk::set_words(words, &given[Place::HEAD..]);
-    }
-    if tag == Tag::CHANGE {
-        desk::set_words(words, &given[Place::HEAD..]);
-    }
-    if tag == Tag::MEET {
-        list_station(stdout, words, space, given);
-    }
-}
-
-fn dispatch_all(
-    stdout: Stdout,
-    words: &mut [u64; Room::WORDS],
-    space: &mut [u64; Output::WORDS],
-    input: &[u8],
-) {
-    let mut at: usize = 0;
-    while at < input.len() {
-        let rest = &input[at..];
-        let count = desk::first_call(rest);
-        if count < Place::HEAD {
-            return;
+        Ok(written) => {
+            let (list, others) = space.split_at(written.min(space.len()));
+            print!(stdout; "written {written}{}", Numbers(list))?;
+            Ok(others)
         }
-        let end = at + count;
-        dispatch(stdout, words, space, &input[at..end]);
-        at = end;
+        Err(refusal) => {
+            print!(stdout; "{refusal}")?;
+            Ok(space)
+        }
     }
 }
 
-fn dispatch_input(
-    stdin: Stdin,
-    stdout: Stdout,
-    words: &mut [u64; Room::WORDS],
-    space: &mut [u64; Output::WORDS],
-    buffer: &mut [u8],
-) {
-    let have = desk::read_full(stdin, buffer);
-    dispatch_all(stdout, words, space, &buffer[0..have]);
+// The words of the book, and the output's room.
+#[derive(Drop)]
+struct State {
+    words: [u64; Room::WORDS],
+    space: [u64; Output::WORDS],
 }
 
-// Takes the buffer as an array, so that the length of a million zeros is known by their type and is not counted.
-fn dispatch_with(
-    stdin: Stdin,
-    stdout: Stdout,
-    words: &mut [u64; Room::WORDS],
-    space: &mut [u64; Output::WORDS],
-    buffer: &mut [u8; Room::INPUT],
-) {
-    dispatch_input(stdin, stdout, words, space, buffer);
+impl State {
+    fn list_station(&mut self, stdout: Stdout, call: Call<'_>) -> io::Result<()> {
+        let State { words, space } = self;
+        space.fill(Output::FORMER);
+        let book = &words[..call.book.min(Room::WORDS)];
+        let out = &mut space[..call.beside.min(Output::WORDS)];
+        let met = meet::meet(book, call.number, out);
+        let others = tell_met(stdout, met, &space[..])?;
+        if others.iter().all(|word| *word == Output::FORMER) {
+            println!(stdout)
+        } else {
+            println!(stdout; " spoiled")
+        }
+    }
+
+    fn dispatch(&mut self, stdout: Stdout, call: Call<'_>) -> io::Result<()> {
+        let Ok(tag) = Tag::try_from(call.tag) else {
+            return Ok(());
+        };
+        match tag {
+            Tag::Begin => {
+                self.words.fill(0);
+                desk::set_words(&mut self.words, call.carried);
+            }
+            Tag::Change => desk::set_words(&mut self.words, call.carried),
+            Tag::Meet => self.list_station(stdout, call)?,
+        }
+        Ok(())
+    }
 }
 
-fn main(rt: HostRuntime) {
-    let mut words = [0u64; Room::WORDS];
-    let mut space = [0u64; Output::WORDS];
+fn main(rt: HostRuntime) -> io::Result<()> {
     let mut buffer = [0u8; Room::INPUT];
-    dispatch_with(rt.stdin(), rt.stdout(), &mut words, &mut space, &mut buffer);
+    let input = desk::read_full(rt.stdin(), &mut buffer);
+    let mut state = State {
+        words: [0; Room::WORDS],
+        space: [0; Output::WORDS],
+    };
+    for call in Records::of(input) {
+        state.dispatch(rt.stdout(), call)?;
+    }
+    Ok(())
 }

@@ -35,19 +35,8 @@ impl Tried {
     }
 }
 
-fn chosen_count(test: bool, yes: u16, no: u16) -> u16
-    ensures { result ≡ cond test yes no }
-{
-    if test { yes } else { no }
-}
-
-fn chosen_long(test: bool, yes: u32, no: u32) -> u32
-    ensures { result ≡ cond test yes no }
-{
-    if test { yes } else { no }
-}
-
-fn chosen(test: bool, yes: u64, no: u64) -> u64
+// One of two values, by a test.
+fn chosen<T: Copy>(test: bool, yes: T, no: T) -> T
     ensures { result ≡ cond test yes no }
 {
     if test { yes } else { no }
@@ -57,19 +46,15 @@ fn chosen(test: bool, yes: u64, no: u64) -> u64
 fn is_plain(ticket: Ticket) -> bool
     ensures { result ≡ is_plain ticket }
 {
-    if ticket.done == 0 {
-        return true;
-    }
-    ticket.n <= ticket.claimed
+    ticket.done == 0 || ticket.n <= ticket.claimed
 }
 
 // How many targets a ticket may have done and still go the fast way.
 pub fn quick_swaps(ticket: Ticket) -> u16
     ensures { result ≡ quick_swaps ticket }
 {
-    let kind = ticket.kind;
-    match kind {
-        Kind::Edit => chosen_count(is_plain(ticket), ticket.n, 0),
+    match ticket.kind {
+        Kind::Edit => chosen(is_plain(ticket), ticket.n, 0),
         Kind::Stale => 0,
         Kind::View => 0,
     }
@@ -82,8 +67,8 @@ fn swap_at(targets: &[u64; Tickets::NUMBERS], slot: usize, ticket: Ticket) -> Sw
 {
     let mark = words::mark(slot as u16);
     let claims = ticket.claimed < ticket.n;
-    let k = chosen_count(claims, ticket.claimed, ticket.done);
-    let column = chosen_count(claims, 1, 2) as usize;
+    let k = chosen(claims, ticket.claimed, ticket.done);
+    let column = chosen(claims, 1, 2);
     let at = Tickets::place(slot, k);
     let value = targets[at + column];
     let word = targets[at] as u16;
@@ -110,20 +95,16 @@ pub fn try_quick(
     }
     let claims = ticket.claimed < ticket.n;
     let swap = swap_at(targets, slot, ticket);
-    let at = swap.word as usize;
-    let report = words::conditional_swap(book, at, swap.expected, swap.desired);
-    let found = report.found;
-    if found == swap.expected {
-        return Tried {
-            claims: claims,
-            found: found,
-            went: true,
-        };
-    }
+    let found = words::conditional_swap(
+        book,
+        swap.word as usize,
+        swap.expected,
+        swap.desired,
+    ).found;
     Tried {
-        claims: claims,
-        found: found,
-        went: words::is_held(swap.expected),
+        claims,
+        found,
+        went: found == swap.expected || words::is_held(swap.expected),
     }
 }
 
@@ -145,11 +126,11 @@ impl Told {
 
     const LONG: u16 = (Frame::FIELD + Frame::LONG) as u16;
 
-    const CLAIMED: u32 = Told::SHORT as u32 + Bits::TWO_BYTES * (AnswerKind::CLAIMED as u32);
+    const CLAIMED: u32 = Told::SHORT as u32 + Bits::TWO_BYTES * (AnswerKind::Claimed as u32);
 
-    const PUT: u32 = Told::SHORT as u32 + Bits::TWO_BYTES * (AnswerKind::PUT as u32);
+    const PUT: u32 = Told::SHORT as u32 + Bits::TWO_BYTES * (AnswerKind::Put as u32);
 
-    const GRANTED: u32 = Told::LONG as u32 + Bits::TWO_BYTES * (AnswerKind::GRANTED as u32);
+    const GRANTED: u32 = Told::LONG as u32 + Bits::TWO_BYTES * (AnswerKind::Granted as u32);
 }
 
 // The answer to a swap that went through: six bytes, or eight where it is Granted; the bytes behind them stay.
@@ -159,14 +140,14 @@ pub fn put_told(out: &mut [u8], at: usize, claims: bool, after: Ticket) -> usize
 {
     let granted = after.done == after.n;
     let kept = frames::numbers::read16(out, at + Frame::HEAD + Frame::FIELD) as u32;
-    let many = chosen_count(claims, after.claimed, after.done) as u32;
-    let head = chosen_long(
+    let many = chosen(claims, after.claimed, after.done) as u32;
+    let head = chosen(
         granted,
         Told::GRANTED,
-        chosen_long(claims, Told::CLAIMED, Told::PUT),
+        chosen(claims, Told::CLAIMED, Told::PUT),
     );
-    let fields = chosen_long(granted, after.tries, many + Bits::TWO_BYTES * kept);
+    let fields = chosen(granted, after.tries, many + Bits::TWO_BYTES * kept);
     frames::numbers::put32(out, at, head);
     frames::numbers::put32(out, at + Frame::HEAD, fields);
-    at + Frame::FIELD + chosen_count(granted, Told::LONG, Told::SHORT) as usize
+    at + Frame::FIELD + chosen(granted, Told::LONG, Told::SHORT) as usize
 }

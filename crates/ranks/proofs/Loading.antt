@@ -9,7 +9,7 @@ use borrow.Author.Tests.{eq-eqb, ne_eqb}
 use Rattle.words.specs.Words.{Words, words_in_book, passage_count}
 use Rattle.legs.specs.Positions.{Ranks, is_permutation}
 use Rattle.tickets.specs.Tickets.{Tickets}
-use Rattle.calls.specs.declared.Outcome.{Outcome}
+use Rattle.calls.specs.Outcomes.{Outcome}
 use Rattle.calls.specs.Call.{book_length_wrong, check, first_of}
 use Rattle.calls.specs.Outcomes.{ticket_stands}
 use Rattle.calls.specs.Loading.{load_checks, load_refusal, loaded_by, load_of}

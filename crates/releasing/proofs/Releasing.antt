@@ -28,10 +28,9 @@ module _ (words : Words) (targets : List ℕ) (team : ℕ) (slot : Slot.Ticket) 
       let tells = phase_tells slot Putting known.phase_known in
       (tells.0, counts_there targets team slot known.steps_in.made Putting known.phase_known, tells.1)
 
-  module _ (next : Target) (mark : ℕ) (after : Words) (left : Slot.Ticket) (place : ℕ) (output : Bytes)
+  module _ (next : Target) (after : Words) (left : Slot.Ticket) (place : ℕ) (output : Bytes)
       (next_is : next ≡ target_standing targets team slot.done)
-      (marks : mark ≡ mark_of team)
-      (leaves : after ≡ (swap_of words next.word mark next.new).words)
+      (leaves : after ≡ (swap_of words next.word (mark_of team) next.new).words)
       (is : left ≡ tried_slot slot slot.kind slot.claimed (slot.done + 1)) where
     abbrev stands_there : Ticket
     stands_there = standing targets team slot
@@ -42,8 +41,8 @@ module _ (words : Words) (targets : List ℕ) (team : ℕ) (slot : Slot.Ticket) 
         let made = known.steps_in.made in
         let (edit, below, claims) = puts_next in
         let read = next_is ∙ sym (target_read targets team slot made slot.done below) in
-        step_left Putting words targets team slot out at known (tries next.word mark next.new) _ after (put stands_there) targets left place output
-        (λ i. tries (read i).word (marks i) (read i).new) refl leaves refl
+        step_left Putting words targets team slot out at known (tries next.word (mark_of team) next.new) _ after (put stands_there) targets left place output
+        (λ i. tries (read i).word (mark_of team) (read i).new) refl leaves refl
         (ap (gathered targets team) is
         ∙ gathered_put targets team slot edit below
         ∙ ap (λ (t : Ticket). (put t).ticket) (is_standing targets team slot made))
@@ -70,10 +69,9 @@ module _ (words : Words) (targets : List ℕ) (team : ℕ) (slot : Slot.Ticket) 
   pub next_claimed : (slot.done < slot.claimed) × (slot.claimed < slot.n)
   next_claimed = counts_there targets team slot known.steps_in.made GivingBack known.phase_known
 
-  module _ (next : Target) (mark : ℕ) (after : Words) (left : Slot.Ticket) (place : ℕ) (output : Bytes)
+  module _ (next : Target) (after : Words) (left : Slot.Ticket) (place : ℕ) (output : Bytes)
       (next_is : next ≡ target_standing targets team slot.done)
-      (marks : mark ≡ mark_of team)
-      (leaves : after ≡ (swap_of words next.word mark next.quoted).words)
+      (leaves : after ≡ (swap_of words next.word (mark_of team) next.quoted).words)
       (is : left ≡ tried_slot slot slot.kind slot.claimed (done_with_one slot)) where
     abbrev gives_there : Ticket
     gives_there = standing targets team slot
@@ -84,8 +82,8 @@ module _ (words : Words) (targets : List ℕ) (team : ℕ) (slot : Slot.Ticket) 
         let made = known.steps_in.made in
         let (below, some) = next_claimed in
         let read = next_is ∙ sym (target_read targets team slot made slot.done (omega (arith, below, some))) in
-        step_left GivingBack words targets team slot out at known (tries next.word mark next.quoted) _ after (given_back gives_there) targets left place output
-        (λ i. tries (read i).word (marks i) (read i).quoted) refl leaves refl
+        step_left GivingBack words targets team slot out at known (tries next.word (mark_of team) next.quoted) _ after (given_back gives_there) targets left place output
+        (λ i. tries (read i).word (mark_of team) (read i).quoted) refl leaves refl
         (ap (gathered targets team) is
         ∙ gathered_given targets team slot (phase_tells slot GivingBack known.phase_known) below (omega (arith, some))
         ∙ ap (λ (t : Ticket). (given_back t).ticket) (is_standing targets team slot made))

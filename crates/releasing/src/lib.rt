@@ -7,7 +7,7 @@ ghost use Rattle.tickets.specs.Table.{gathered};
 ghost use Rattle.replies.specs.Leaving.{StepsFrom, LeftBy};
 
 use replies::Left;
-use tickets::{Ticket, Tickets};
+use tickets::{StepAnswer, Ticket, Tickets};
 
 // The next put of an edit: one swap.
 pub fn put(
@@ -22,22 +22,12 @@ pub fn put(
     ensures { LeftBy (step_of book.old (gathered targets.now slot ticket) slot) targets.now slot result.ticket book.new out.old at result.filled out.new }
 {
     let target = replies::target_at(targets, slot, ticket.done);
-    let word = target.word as usize;
-    let mark = words::mark(slot as u16);
-    words::conditional_swap(book, word, mark, target.new);
+    replies::release(book, slot, target.word, target.new);
     let after = ticket.put();
     if after.stands() {
-        let filled = replies::put_put(out, at, after.done);
-        return Left {
-            ticket: after,
-            filled: filled,
-        };
+        return replies::leave(after, StepAnswer::Put(after.done), out, at);
     }
-    let filled = replies::put_granted(out, at, after.tries);
-    Left {
-        ticket: after,
-        filled: filled,
-    }
+    replies::leave(after, StepAnswer::Granted(after.tries), out, at)
 }
 
 // The next give-back of an edit found stale: one swap; the last names the word that differed.
@@ -53,21 +43,16 @@ pub fn give_back(
     ensures { LeftBy (step_of book.old (gathered targets.now slot ticket) slot) targets.now slot result.ticket book.new out.old at result.filled out.new }
 {
     let target = replies::target_at(targets, slot, ticket.done);
-    let word = target.word as usize;
-    let mark = words::mark(slot as u16);
-    words::conditional_swap(book, word, mark, target.quoted);
+    replies::release(book, slot, target.word, target.quoted);
     let after = ticket.give_back();
     if after.stands() {
-        let filled = replies::put_returned(out, at, after.done);
-        return Left {
-            ticket: after,
-            filled: filled,
-        };
+        return replies::leave(after, StepAnswer::Returned(after.done), out, at);
     }
     let differed = replies::target_at(targets, slot, ticket.claimed);
-    let filled = replies::put_stale(out, at, differed.word, after.tries);
-    Left {
-        ticket: after,
-        filled: filled,
-    }
+    replies::leave(
+        after,
+        StepAnswer::Stale(differed.word, after.tries),
+        out,
+        at,
+    )
 }

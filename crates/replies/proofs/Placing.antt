@@ -1,4 +1,4 @@
--- An answer put at a place of an output: written in the room left, or stored byte by byte.
+-- An answer put at a place of an output, stored byte by byte.
 use Prim.Native.Nat.{ℕ, ◌+◌, ◌-◌, ◌≤◌}
 use mathlib.Core.Path.{◌≡◌, refl, sym, ap, ◌∙◌}
 use mathlib.Core.List.{[], ◌++◌, append-nil, append_assoc}
@@ -6,14 +6,7 @@ use native.Mathlib.Omega.{arith}
 use lib.ListN.{length, take, drop, length-drop, drop_of_length-le}
 use lib.Seq.{sets, sets-eq, length-sets, take_all, drop-drop}
 use Rattle.frames.specs.Numbers.{Bytes}
-use Rattle.frames.specs.Answers.{longest_answer, written, room_in, with_room, PutAt}
-
--- From what was written in the room left.
-pub put_at : (out : Bytes) (at : ℕ) (answer : Bytes) (count : ℕ) (room output : Bytes) → at ≤ length out → longest_answer ≤ length out - at
-    → ((count, room) ≡ written (room_in out at) answer) × (count ≤ longest_answer) → output ≡ with_room out at room → length output ≡ length out
-    → PutAt out at answer (at + count) output
-put_at out at answer count room output inside enough (sent, most) is long =
-    ((ap (λ p. at + p.0) sent, omega arith), (is ∙ ap (λ p. with_room out at p.1) sent, long))
+use Rattle.frames.specs.Answers.{room_in, with_room, PutAt}
 
 -- From bytes stored one after another, from the place on.
 pub stored_at : (out : Bytes) (at : ℕ) (answer output : Bytes) → at + length answer ≤ length out → output ≡ sets out at answer → PutAt out at answer (at + length answer) output

@@ -1,15 +1,15 @@
 // What every step of a ticket takes and leaves: a target read from the table, an answer put at a place of the output.
 #![tactic(auto)]
 
-ghost use Rattle.std.specs.Prelude.{◌≡◌, ◌<◌};
-ghost use Rattle.words.specs.Words.{words_in_book, team_count, holder_of};
-ghost use Rattle.tickets.specs.declared.StepAnswer.TheVariants.{Claimed, Waiting, Found, Put, Returned, Granted, Stale, Seen};
-ghost use Rattle.tickets.specs.Steps.{values_from};
+ghost use Rattle.std.specs.Prelude.{◌≡◌, ◌<◌, length};
+ghost use Rattle.words.specs.Words.{words_in_book, team_count, mark_of, holder_of, swap_of};
+ghost use Rattle.tickets.specs.declared.StepAnswer.TheVariants.{Waiting};
 ghost use Rattle.tickets.specs.Table.{target_room, target_standing, tried_slot};
+ghost use Rattle.frames.specs.Answers.{answer_frame, PutAt};
 ghost use Rattle.replies.specs.Leaving.{RoomAt, Answered};
 
-use tickets::{Target, Ticket, Tickets};
-use words::Limits;
+use frames::Answer;
+use tickets::{StepAnswer, Target, Ticket, Tickets};
 
 // What a step leaves: its ticket, and the place behind its answer.
 #[derive(Clone, Copy)]
@@ -24,94 +24,42 @@ pub fn target_at(targets: &[u64; Tickets::NUMBERS], slot: usize, k: u16) -> Targ
     ensures { result ≡ target_standing targets.now slot k }
 {
     let at = Tickets::place(slot, k);
-    let word = targets[at] as u16;
-    let quoted = targets[at + 1];
-    let new = targets[at + 2];
     Target {
-        word: word,
-        quoted: quoted,
-        new: new,
+        word: targets[at] as u16,
+        quoted: targets[at + 1],
+        new: targets[at + 2],
     }
 }
 
-// The answers to a step, put at a place: so many words claimed,
-pub fn put_claimed(out: &mut [u8], at: usize, many: u16) -> usize
-    requires { RoomAt out.old at }
-    ensures { Answered out.old at (Claimed many) result out.new }
+// A word that a team holds released: its mark is exchanged for a value.
+pub fn release(book: &mut [u64], slot: usize, word: u16, value: u64)
+    requires { (slot < team_count) × (word < length book.old) }
+    ensures { book.new ≡ (swap_of book.old word (mark_of slot) value).words }
 {
-    let room = &mut out[at..];
-    let count = encoder::write_claimed(room, many);
-    at + count
+    words::conditional_swap(book, word as usize, words::mark(slot as u16), value);
 }
 
-// waiting for the team that holds a word,
-pub fn put_waiting(out: &mut [u8], at: usize, word: u16, team: u16) -> usize
+// Puts an answer at a place of the output, and returns the place after it. Its caller knows which answer: inlined there, no
+// test of it is left.
+#[inline(always)]
+pub fn put(out: &mut [u8], at: usize, answer: Answer) -> usize
     requires { RoomAt out.old at }
-    ensures { Answered out.old at (Waiting word team) result out.new }
+    ensures { PutAt out.old at (answer_frame answer) result out.new }
 {
-    let room = &mut out[at..];
-    let count = encoder::write_waiting(room, word, team);
-    at + count
+    at + encoder::write(&mut out[at..], answer)
 }
 
-// found stale, and giving back,
-pub fn put_found(out: &mut [u8], at: usize, word: u16) -> usize
+// The ticket that a step leaves, and the step's answer, put at a place of the output.
+#[inline(always)]
+pub fn leave(ticket: Ticket, answer: StepAnswer, out: &mut [u8], at: usize) -> Left
     requires { RoomAt out.old at }
-    ensures { Answered out.old at (Found word) result out.new }
+    ensures ticket { result.ticket ≡ ticket }
+    ensures answer { Answered out.old at answer result.filled out.new }
 {
-    let room = &mut out[at..];
-    let count = encoder::write_found(room, word);
-    at + count
-}
-
-// so many targets put,
-pub fn put_put(out: &mut [u8], at: usize, many: u16) -> usize
-    requires { RoomAt out.old at }
-    ensures { Answered out.old at (Put many) result out.new }
-{
-    let room = &mut out[at..];
-    let count = encoder::write_put(room, many);
-    at + count
-}
-
-// so many words given back,
-pub fn put_returned(out: &mut [u8], at: usize, many: u16) -> usize
-    requires { RoomAt out.old at }
-    ensures { Answered out.old at (Returned many) result out.new }
-{
-    let room = &mut out[at..];
-    let count = encoder::write_returned(room, many);
-    at + count
-}
-
-// granted,
-pub fn put_granted(out: &mut [u8], at: usize, tries: u32) -> usize
-    requires { RoomAt out.old at }
-    ensures { Answered out.old at (Granted tries) result out.new }
-{
-    let room = &mut out[at..];
-    let count = encoder::write_granted(room, tries);
-    at + count
-}
-
-// stale, by the word that differed,
-pub fn put_stale(out: &mut [u8], at: usize, word: u16, tries: u32) -> usize
-    requires { RoomAt out.old at }
-    ensures { Answered out.old at (Stale word tries) result out.new }
-{
-    let room = &mut out[at..];
-    let count = encoder::write_stale(room, word, tries);
-    at + count
-}
-
-// and a view's first n values.
-pub fn put_seen(out: &mut [u8], at: usize, values: [u64; Limits::NAMED], n: u16) -> usize
-    requires { RoomAt out.old at }
-    ensures { Answered out.old at (Seen (values_from n values)) result out.new }
-{
-    let room = &mut out[at..];
-    let count = encoder::write_seen(room, values, n);
-    at + count
+    Left {
+        ticket,
+        filled: put(out, at, Answer::Step(answer)),
+    }
 }
 
 // A claim that found a mark: the ticket waits, and its answer tells the holder.
@@ -120,9 +68,6 @@ pub fn waited(ticket: Ticket, word: u16, found: u64, out: &mut [u8], at: usize) 
     ensures ticket { result.ticket ≡ tried_slot ticket ticket.kind ticket.claimed ticket.done }
     ensures answer { Answered out.old at (Waiting word (holder_of found)) result.filled out.new }
 {
-    let filled = put_waiting(out, at, word, words::holder(found));
-    Left {
-        ticket: ticket.wait(),
-        filled: filled,
-    }
+    let holder = words::holder(found);
+    leave(ticket.wait(), StepAnswer::Waiting(word, holder), out, at)
 }

@@ -13,7 +13,7 @@ ghost use Rattle.calls.specs.Pieces.{goes_on};
 ghost use Rattle.serve.specs.Serving.{shifted, end_of, served_of, served_after, served_by};
 
 use calls::{Stop, Streamed};
-use frames::Refusal;
+use frames::{Answer, Refusal};
 use tickets::Tickets;
 
 // What came of one read: the tickets, how many bytes of a frame not yet whole stand at the front, how many bytes to
@@ -32,9 +32,7 @@ fn put_torn(out: &mut [u8], at: usize) -> usize
     requires { (at ≤ length out.old) × (longest_answer ≤ length out.old - at) }
     ensures { PutAt out.old at (answer_frame (Refused 3)) result out.new }
 {
-    let room = &mut out[at..];
-    let count = encoder::write_refused(room, Refusal::TORN);
-    at + count
+    replies::put(out, at, Answer::Refused(Refusal::Torn.number()))
 }
 
 // What is written at the end of the input, where `have` bytes are kept.
@@ -53,13 +51,8 @@ fn shift(buffer: &mut [u8], from: usize, have: usize) -> usize
     requires { (from ≤ have) × (have ≤ length buffer.old) }
     ensures { (result ≡ have - from) × (buffer.new ≡ shifted buffer.old from have) }
 {
-    let count = have - from;
-    let mut k: usize = 0;
-    while k < count {
-        buffer[k] = buffer[from + k];
-        k += 1;
-    }
-    count
+    buffer.copy_within(from..have, 0);
+    have - from
 }
 
 fn stream_front(

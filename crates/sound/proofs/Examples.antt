@@ -15,9 +15,9 @@ neighbours_clear : map (bit_of nine) (8 ∷ 9 ∷ 10 ∷ 1 ∷ 17 ∷ []) ≡ 0 
 neighbours_clear = refl
 
 set_twice : ones_of (with_bit nine 9) ≡ 1
-unfolding ones_of lib.Count.ones
+unfolding lib.Count.ones
 set_twice = refl
 
 set_both : ones_of (with_bit nine 16) ≡ 2
-unfolding ones_of lib.Count.ones
+unfolding lib.Count.ones
 set_both = refl

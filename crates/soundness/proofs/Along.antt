@@ -15,7 +15,7 @@ use Rattle.words.specs.declared.LegLayout.{LegLayout}
 use Rattle.words.specs.declared.LegLayout.TheVariants.{ThreeWords, FourWords}
 use Rattle.words.specs.Words.{Words, words_in_book, leg_words, last_leg_in, newest_word, count_word, link_word_in, place_word_in, measure_word_in, newer_word, read_of}
 use Rattle.words.proofs.Tests.{split, join}
-use Rattle.legs.specs.declared.Reading.TheVariants.{NoLeg, Is}
+use Rattle.std.specs.Prelude.{None, Some}
 use Rattle.legs.specs.Legs.{place_of, measure_of, is_taken, place_in_range, measure_in_range, leg_in_range}
 use Rattle.legs.proofs.Figures.{written_taken}
 use Rattle.legs.specs.Reading.{passage_in, stations_in, measure_in, is_place, is_measure, reading_of}
@@ -71,7 +71,7 @@ unfolding reading_of is_place is_measure
 figures_of p place measure e = by_tests (all_hold (is_place place ∷ is_measure measure ∷ [])) refl e
   where
     by_tests : (b : Bool) → all_hold (is_place place ∷ is_measure measure ∷ []) ≡ b
-        → is_of_passage p (cond b (Is (record { passage = passage_in place; stations = stations_in place; measure = measure_in measure })) NoLeg) ≡ true
+        → is_of_passage p (cond b (Some (record { passage = passage_in place; stations = stations_in place; measure = measure_in measure })) None) ≡ true
         → FiguresOf p place measure
     by_tests true t same =
         let (p_holds, (m_holds, u)) = split (is_place place ∷ is_measure measure ∷ []) t in

@@ -1,4 +1,5 @@
 -- A plumb leg with a compass other than 0 stands in no plain book, so the answer to its words is no.
+use Rattle.std.specs.Prelude.{Ok}
 use Prim.Native.Nat.{ℕ, ◌+◌, ◌*◌, ◌≤◌, ◌<◌}
 use mathlib.Core.Path.{◌≡◌, refl, sym, ap, ◌∙◌}
 use mathlib.Core.Bool.{Bool, true, false}
@@ -6,7 +7,7 @@ use native.Mathlib.Omega.{arith}
 use Rattle.words.specs.declared.LegLayout.TheVariants.{FourWords}
 use Rattle.words.specs.Words.{passage_count, measure_word}
 use Rattle.legs.specs.declared.Leg.{Leg}
-use Rattle.legs.specs.declared.Reading.TheVariants.{NoLeg, Is}
+use Rattle.std.specs.Prelude.{None, Some}
 use Rattle.legs.specs.Legs.{compass_unit, clino_unit, clino_offset, place_of, measure_of}
 use Rattle.legs.specs.Reading.{reading_of}
 use Rattle.legs.proofs.RoundTrip.{legs_read_back, plumb_compass_reads_as_none}
@@ -18,7 +19,6 @@ use Rattle.plain.proofs.Figures.{leg_in_range_lem}
 use Rattle.plain.proofs.OneHome.{value_leg}
 use Rattle.plain.proofs.Lists.{leg_words_lem, fair_of}
 use Rattle.plain.proofs.LaidOut.{words_follow_layout}
-use Rattle.soundness.specs.declared.Checked.TheVariants.{No}
 use Rattle.soundness.specs.Checking.{is_sound}
 use Rattle.soundness.specs.Soundness.{OfSomePlainBook, PlumbCompassIsUnsound}
 use Rattle.soundness.specs.Answering.{check_of}
@@ -26,7 +26,7 @@ use Rattle.soundness.proofs.Answering.{says_no}
 use Rattle.soundness.proofs.Recovered.{recovered}
 
 -- Words don't read as a leg and as none.
-both_ways : (place measure : ℕ) (leg : Leg) → reading_of place measure ≡ Is leg → reading_of place measure ≡ NoLeg → ⊥
+both_ways : (place measure : ℕ) (leg : Leg) → reading_of place measure ≡ Some leg → reading_of place measure ≡ None → ⊥
 both_ways place measure leg reads none = let never : ◌≡◌ {A = ℕ} 0 1 = cc in omega arith
 
 -- A measure in a plain book's words is that of one of its legs, which is in range.
@@ -35,10 +35,10 @@ module _ (plain : Plain) (sound : Sound plain) (r : ℕ) (some : 1 ≤ r) (used 
   summed = (words_follow_layout FourWords plain).measure r some ∙ (leg_words_lem plain (fair_of FourWords plain sound).once r).measure
 
   -- It reads as that leg with its own place.
-  reads : (place : ℕ) × (leg : Leg) × (reading_of place (word_of plain (measure_word r)) ≡ Is leg)
+  reads : (place : ℕ) × (leg : Leg) × (reading_of place (word_of plain (measure_word r)) ≡ Some leg)
   reads = let home = sum_some (measure_in r) (list_of plain) passage_count (rw summed at used) in at_home home.0 home.1 (has (λ a l. measure_at a) r (list_of plain home.0) home.2)
     where
-      at_home : (p : ℕ) → p < passage_count → 0 < times_in r (list_of plain p) → (place : ℕ) × (leg : Leg) × (reading_of place (word_of plain (measure_word r)) ≡ Is leg)
+      at_home : (p : ℕ) → p < passage_count → 0 < times_in r (list_of plain p) → (place : ℕ) × (leg : Leg) × (reading_of place (word_of plain (measure_word r)) ≡ Some leg)
       at_home p fits inside =
           let leg = in_passage p (leg_in r (list_of plain p)) in
           let measured : word_of plain (measure_word r) ≡ measure_of leg.measure = summed ∙ value_leg (list_of plain) (fair_of FourWords plain sound).once r p fits inside (λ q. measure_at) in
@@ -55,6 +55,6 @@ plumb_compass_is_unsound words room leg distance compass clino whole long least 
         let read = reads plain sound leg least (omega (arith, same)) in
         both_ways read.0 _ read.1 read.2 (ap (reading_of read.0) same ∙ plumb_compass_reads_as_none read.0 distance compass clino distance_fits compass_fits plumb other)
 
-    by_check : (b : Bool) → is_sound words ≡ b → check_of words room ≡ No
+    by_check : (b : Bool) → is_sound words ≡ b → check_of words room ≡ Ok false
     by_check true e = absurd (never (recovered FourWords words e))
     by_check false e = says_no words room whole long e

@@ -1,5 +1,5 @@
 -- "A check answers yes exactly when the words are those of some plain book."
-use Rattle.std.specs.Prelude.{ℕ, ◌+◌, ◌*◌, ◌/◌, ◌≤◌, ◌<◌, ◌≡◌, List, true, ◌↔◌, ◌≢◌, length, ℤ}
+use Rattle.std.specs.Prelude.{ℕ, ◌+◌, ◌*◌, ◌/◌, ◌≤◌, ◌<◌, ◌≡◌, List, true, ◌↔◌, ◌≢◌, length, ℤ, Ok, false}
 use Rattle.words.specs.Tests.{Every}
 use Rattle.words.specs.declared.LegLayout.{LegLayout}
 use Rattle.words.specs.declared.LegLayout.TheVariants.{FourWords}
@@ -10,7 +10,6 @@ use Rattle.calls.specs.Run.{Call, Admitted, Shared, run_from}
 use Rattle.calls.specs.Order.{first_notes, HeldBy, HeldFrom}
 use Rattle.calls.specs.Linearizable.{heard_on, book_after}
 use Rattle.calls.specs.Demand3From.{Begins}
-use Rattle.soundness.specs.declared.Checked.TheVariants.{Yes, No}
 use Rattle.soundness.specs.Checking.{is_sound_in}
 use Rattle.soundness.specs.InWords.{plain_in}
 use Rattle.soundness.specs.Answering.{scratch_bytes, check_of}
@@ -37,7 +36,7 @@ WordsTellLists =
 abbrev pub YesExactlyToPlainBooks : Type 0
 YesExactlyToPlainBooks =
     (words : Words) (room : ℕ)
-    → (check_of words room ≡ Yes) ↔ ((length words ≡ words_in_book) × (scratch_bytes ≤ room) × OfSomePlainBook FourWords words)
+    → (check_of words room ≡ Ok true) ↔ ((length words ≡ words_in_book) × (scratch_bytes ≤ room) × OfSomePlainBook FourWords words)
 
 -- Statement: "a plumb leg with another compass reads as no leg, and the book check says no to it", whichever leg it is and whatever else the book holds.
 abbrev pub PlumbCompassIsUnsound : Type 0
@@ -46,7 +45,7 @@ PlumbCompassIsUnsound =
     → length words ≡ words_in_book → scratch_bytes ≤ room → 1 ≤ leg → leg ≤ last_leg
     → distance < compass_unit → compass < clino_unit / compass_unit → is_plumb clino ≡ true → compass ≢ 0
     → read_of words (measure_word leg) ≡ distance + compass_unit * compass + clino_unit * clino_offset clino
-    → check_of words room ≡ No
+    → check_of words room ≡ Ok false
 
 -- No team holds any word after a list of calls.
 abbrev pub NothingHeld : Words → List Call → Type 0
@@ -57,7 +56,7 @@ abbrev pub UnheldBooksAreSound : Type 0
 UnheldBooksAreSound =
     (store : Words) (calls : List Call) → Every Admitted calls → NothingHeld store calls
     → (room : ℕ) → scratch_bytes ≤ room
-    → check_of (book_after store calls) room ≡ Yes
+    → check_of (book_after store calls) room ≡ Ok true
 
 -- Statement: so it is from wherever a run may begin.
 abbrev pub UnheldBooksAreSoundFrom : Type 0
@@ -66,4 +65,4 @@ UnheldBooksAreSoundFrom =
     → (calls : List Call) → Every Admitted calls
     → ((team word : ℕ) → ¬ HeldFrom (first_notes shared.ranks) (run_from shared calls).heard team word)
     → (room : ℕ) → scratch_bytes ≤ room
-    → check_of (run_from shared calls).end.book room ≡ Yes
+    → check_of (run_from shared calls).end.book room ≡ Ok true

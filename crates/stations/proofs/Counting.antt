@@ -1,7 +1,7 @@
 -- The counts of a station, and the size of its list by them.
 use Prim.Native.Nat.{ℕ, zero, suc, ◌+◌, ◌*◌, ◌≤◌, ◌<◌}
 use mathlib.Core.Path.{◌≡◌, refl, sym, ap, ◌∙◌}
-use mathlib.Core.List.{List, [], ◌∷◌, map}
+use mathlib.Core.List.{List, [], ◌∷◌, ◌++◌, map, append-nil}
 use mathlib.Core.Bool.{Bool, true, false, cond}
 use mathlib.Core.Logic.{◌≢◌}
 use native.Mathlib.Omega.{arith}
@@ -11,13 +11,15 @@ use borrow.Author.Tests.{eq-eqb, ne_eqb}
 use lib.ListN.{length, get_or, drop, length-append, length-map}
 use lib.Seq.{drop-cons}
 use Rattle.words.specs.declared.LegLayout.TheVariants.{FourWords}
-use Rattle.words.specs.Words.{Words, passage_count}
+use Rattle.std.proofs.Common.{append_assoc, sum}
+use Rattle.std.proofs.lemmas.List.Sums.{sum_by-cons, sum_by-append}
+use Rattle.words.specs.Words.{Words, passage_count, last_leg}
 use Rattle.plain.specs.Plain.{Plain, NumberedLeg, list_of}
 use Rattle.soundness.specs.InWords.{list_in, plain_in}
 use Rattle.meeting.specs.Meeting.{meets, those_meeting, legs_at, any_meets, passages_from, pair, pairs_of, listed_words, pair_words, station_words}
 use Rattle.meeting.proofs.Rising.{length_listed, length_pair_words}
 use Rattle.stations.specs.declared.Size.{Size}
-use Rattle.stations.specs.Counting.{counts_at, sum_of, present_from, with_passage, size_of, list_length}
+use Rattle.stations.specs.Counting.{counts_at, present_from, with_passage, size_of, list_length}
 use Rattle.stations.proofs.Walking.{length_plain, list_in_lem}
 
 -- A count that is not 0.
@@ -36,10 +38,10 @@ module _ (station : ℕ) where
   count_at (legs ∷ lists) zero below = refl
   count_at (legs ∷ lists) (suc p) below = count_at lists p (le_of_suc-le-suc below)
 
-  pub sum_counts : (lists : Plain) → sum_of (counts_at station lists) ≡ length (legs_at station lists)
-  unfolding counts_at sum_of legs_at
+  pub sum_counts : (lists : Plain) → sum (counts_at station lists) ≡ length (legs_at station lists)
+  unfolding counts_at legs_at
   sum_counts [] = refl
-  sum_counts (legs ∷ lists) = omega (arith, length-append (those_meeting station legs) (legs_at station lists), sum_counts lists)
+  sum_counts (legs ∷ lists) = omega (arith, length-append (those_meeting station legs) (legs_at station lists), sum_counts lists, sum_by-cons (λ (n : ℕ). n) (length (those_meeting station legs)) (counts_at station lists))
 
   -- A list has a leg there exactly where the count is not 0.
   any_counted : (legs : List NumberedLeg) → cond (eqb (length (those_meeting station legs)) 0) false true ≡ any_meets station legs
@@ -96,11 +98,11 @@ pub passage_counted : (count : ℕ) (size : Size) → count ≢ 0
 passage_counted count size some = rw (ne_eqb count 0 some)
 
 -- The size by the counts: legs, passages and pairs.
-pub size_legs : (counts : List ℕ) → (size_of counts).legs ≡ sum_of counts
-unfolding size_of sum_of
+pub size_legs : (counts : List ℕ) → (size_of counts).legs ≡ sum counts
+unfolding size_of
 size_legs [] = refl
-size_legs (zero ∷ counts) = size_legs counts ∙ omega arith
-size_legs (suc n ∷ counts) = rw (some_counted n) (omega (arith, size_legs counts))
+size_legs (zero ∷ counts) = omega (arith, size_legs counts, sum_by-cons (λ (n : ℕ). n) 0 counts)
+size_legs (suc n ∷ counts) = rw (some_counted n) (omega (arith, size_legs counts, sum_by-cons (λ (n : ℕ). n) (suc n) counts))
 
 pub size_passages : (p : ℕ) (counts : List ℕ) → (size_of counts).passages ≡ length (present_from p counts)
 unfolding size_of present_from
@@ -117,25 +119,6 @@ size_pairs p (suc n ∷ counts) =
     rw (some_counted n)
     (omega (arith, size_pairs (p + 1) counts, size_passages (p + 1) counts, length-append (map (pair p) later) (pairs_of later), length-map later (pair p)))
 
--- The size and the sum of the counts from a passage on.
-pub size_next : (counts : List ℕ) (p : ℕ) → p < length counts → with_passage (get_or counts p 0) (size_of (drop (p + 1) counts)) ≡ size_of (drop p counts)
-unfolding size_of
-size_next counts p inside = ap size_of (sym (counts_from counts p inside))
-
-pub size_none : (counts : List ℕ) (p : ℕ) → length counts ≤ p → size_of (drop p counts) ≡ record { legs = 0; passages = 0; pairs = 0 }
-unfolding size_of
-size_none counts p high = ap size_of (counts_past counts p high)
-
-pub sum_next : (counts : List ℕ) (p : ℕ) → p < length counts → sum_of (drop p counts) ≡ get_or counts p 0 + sum_of (drop (p + 1) counts)
-unfolding sum_of
-sum_next counts p inside = ap sum_of (counts_from counts p inside)
-
-pub sum_most : (counts : List ℕ) (p : ℕ) → sum_of (drop p counts) ≤ sum_of counts
-unfolding sum_of
-sum_most counts zero = omega arith
-sum_most [] (suc p) = omega arith
-sum_most (count ∷ counts) (suc p) = omega (arith, sum_most counts p)
-
 -- They are small.
 pub few_passages : (counts : List ℕ) → (size_of counts).passages ≤ length counts
 unfolding size_of
@@ -148,6 +131,39 @@ unfolding size_of
 few_pairs [] short = omega arith
 few_pairs (zero ∷ counts) short = few_pairs counts (omega (arith, short))
 few_pairs (suc n ∷ counts) short = rw (some_counted n) (omega (arith, few_passages counts, few_pairs counts (omega (arith, short)), short))
+
+-- The counts that are left, and those passed, from the last on: the size so far is that of those passed.
+pub record Sized (counts left : List ℕ) (size : Size) : Type 0 where
+  pub passed : List ℕ
+  pub parted : counts ≡ left ++ passed
+  pub sized : size ≡ size_of passed
+
+pub sized_none : (counts : List ℕ) → Sized counts counts (record { legs = 0; passages = 0; pairs = 0 })
+unfolding size_of
+sized_none counts = record { passed = []; parted = sym (append-nil counts); sized = refl }
+
+pub sized_all : (counts left : List ℕ) (size : Size) → Sized counts left size → length left ≡ 0 → size ≡ size_of counts
+sized_all counts [] size so_far none = so_far.sized ∙ ap size_of (sym so_far.parted)
+sized_all counts (count ∷ left) size so_far none = absurd (omega (arith, none))
+
+module _ (counts left : List ℕ) (size : Size) (so_far : Sized counts left size) (later : List ℕ) (count : ℕ) (next : left ≡ later ++ count ∷ []) where
+  parts : counts ≡ later ++ (count ∷ so_far.passed)
+  parts = so_far.parted ∙ ap (λ l. l ++ so_far.passed) next ∙ append_assoc later (count ∷ []) so_far.passed
+
+  pub sized_next : Sized counts later (with_passage count size)
+  unfolding size_of
+  sized_next = record { passed = count ∷ so_far.passed; parted = parts; sized = ap (with_passage count) so_far.sized }
+
+  -- They are small, where the counts are.
+  pub sized_fits : sum counts ≤ last_leg → length counts ≤ passage_count → ((size.legs + count ≤ last_leg) × (size.passages ≤ passage_count)) × (size.pairs ≤ passage_count * size.passages)
+  sized_fits few short =
+      let long : length later + (1 + length so_far.passed) ≤ passage_count = omega (arith, short, ap length parts, length-append later (count ∷ so_far.passed)) in (
+        (
+          omega (arith, ap (λ (s : Size). s.legs) so_far.sized, size_legs so_far.passed, few, ap sum parts, sum_by-append (λ (n : ℕ). n) later (count ∷ so_far.passed), sum_by-cons (λ (n : ℕ). n) count so_far.passed),
+          omega (arith, ap (λ (s : Size). s.passages) so_far.sized, few_passages so_far.passed, long),
+        ),
+        omega (arith, ap (λ (s : Size). s.pairs) so_far.sized, ap (λ (s : Size). s.passages) so_far.sized, few_pairs so_far.passed (omega arith)),
+      )
 
 -- The size tells how long the list is.
 pub length_list : (station : ℕ) (plain : Plain) → length (station_words station plain) ≡ list_length (size_of (counts_at station plain))

@@ -1,14 +1,15 @@
 -- The legs along the links of a sound book, one by one: each is a leg of the book, and those at a station are counted.
 use Prim.Native.Nat.{ℕ, zero, suc, ◌+◌, ◌-◌, ◌≤◌, ◌<◌}
 use mathlib.Core.Path.{◌≡◌, refl, sym, ap, subst, ◌∙◌}
-use mathlib.Core.List.{List, [], ◌∷◌, ◌++◌}
+use mathlib.Core.List.{List, [], ◌∷◌}
 use mathlib.Core.Bool.{Bool, true, false, cond}
 use mathlib.Core.Logic.{◌≢◌}
 use native.Mathlib.Omega.{arith}
 use native.Mathlib.Nat.{not-suc-le-zero, le_of_suc-le-suc}
 use lib.Dec.{eqb}
-use lib.ListN.{length, get_or, length-append}
+use lib.ListN.{length, get_or}
 use borrow.Author.Tests.{eq-eqb, ne_eqb}
+use Rattle.std.specs.List.{filter}
 use Rattle.words.specs.Tests.{some_holds}
 use Rattle.words.specs.declared.LegLayout.TheVariants.{FourWords}
 use Rattle.words.specs.Words.{Words, passage_count, last_leg, link_word, read_of}
@@ -23,6 +24,7 @@ use Rattle.soundness.proofs.Soundness.{sound_exactly}
 use Rattle.soundness.proofs.Telling.{words_tell_lists}
 use Rattle.meeting.specs.Meeting.{meets, those_meeting, legs_at}
 use Rattle.meeting.proofs.Rising.{listed_few}
+use Rattle.stations.specs.Links.{IsLeg, leg_after}
 
 -- The first of the lists, and the others.
 list_from : (lists : ℕ → List NumberedLeg) (p n k : ℕ) → k < n → get_or (lists_from lists p n) k [] ≡ lists (p + k)
@@ -64,60 +66,25 @@ module _ (words : Words) (sound : is_sound words ≡ true) where
   pub all_few : (station : ℕ) → length (legs_at station (plain_in FourWords words)) ≤ last_leg
   all_few station = listed_few station (plain_in FourWords words) plain_sound
 
-those_most : (station : ℕ) (legs : List NumberedLeg) → length (those_meeting station legs) ≤ length legs
-unfolding those_meeting
-those_most station [] = omega arith
-those_most station (leg ∷ older) = by (meets station leg) (those_most station older)
-  where
-    by : (b : Bool) → length (those_meeting station older) ≤ length older → length (cond b (leg ∷ those_meeting station older) (those_meeting station older)) ≤ suc (length older)
-    by true rest = omega (arith, rest)
-    by false rest = omega (arith, rest)
-
-pub those_few : (words : Words) → is_sound words ≡ true → (station p : ℕ) → p < passage_count → length (those_meeting station (list_in FourWords words p)) ≤ last_leg
-those_few words sound station p inside = omega (arith, those_most station (list_in FourWords words p), list_few words sound p inside)
+-- So each number along the links, until as many are passed as there are legs, is a leg's.
+pub along_legs : (words : Words) (left leg : ℕ) → Every InRange (legs_along FourWords words left leg) → (k : ℕ) → k < left → IsLeg (leg_after words leg k)
+along_legs words zero leg fits k below = absurd (not-suc-le-zero below)
+along_legs words (suc left) leg fits zero below = (fits.0.number, fits.0.most)
+along_legs words (suc left) leg fits (suc k) below = along_legs words left (read_of words (link_word leg)) fits.1 k (le_of_suc-le-suc below)
 
 -- One leg along the links, and those after it.
-along_next : (words : Words) (left leg : ℕ) → 0 < left
+pub along_next : (words : Words) (left leg : ℕ) → 0 < left
     → legs_along FourWords words left leg ≡ leg_at FourWords words leg ∷ legs_along FourWords words (left - 1) (read_of words (link_word leg))
 along_next words zero leg more = absurd (not-suc-le-zero more)
 along_next words (suc left) leg more = let same : left ≡ suc left - 1 = omega arith in ap (λ (n : ℕ). leg_at FourWords words leg ∷ legs_along FourWords words n (read_of words (link_word leg))) same
 
-pub first_fits : (words : Words) (left leg : ℕ) → 0 < left → Every InRange (legs_along FourWords words left leg) → (1 ≤ leg) × (leg ≤ last_leg)
-first_fits words left leg more fits = let all = subst (Every InRange) (along_next words left leg more) fits in (all.0.number, all.0.most)
-
-pub rest_fits : (words : Words) (left leg : ℕ) → 0 < left → Every InRange (legs_along FourWords words left leg)
-    → Every InRange (legs_along FourWords words (left - 1) (read_of words (link_word leg)))
-rest_fits words left leg more fits = (subst (Every InRange) (along_next words left leg more) fits).1
-
-those_next : (station : ℕ) (leg : NumberedLeg) (older : List NumberedLeg) → those_meeting station (leg ∷ older) ≡ those_meeting station (leg ∷ []) ++ those_meeting station older
+-- Those at a station are the ones that pass the test.
+pub those_passing : (station : ℕ) (legs : List NumberedLeg) → those_meeting station legs ≡ filter (meets station) legs
 unfolding those_meeting
-those_next station leg older = by (meets station leg)
-  where
-    by : (b : Bool) → cond b (leg ∷ those_meeting station older) (those_meeting station older) ≡ cond b (leg ∷ []) [] ++ those_meeting station older
-    by true = refl
-    by false = refl
+those_passing station [] = refl
+those_passing station (leg ∷ older) = ap (λ l. cond (meets station leg) (leg ∷ l) l) (those_passing station older)
 
-module _ (words : Words) (station left leg : ℕ) (more : 0 < left) where
-  pub those_along : those_meeting station (legs_along FourWords words left leg)
-      ≡ those_meeting station (leg_at FourWords words leg ∷ []) ++ those_meeting station (legs_along FourWords words (left - 1) (read_of words (link_word leg)))
-  those_along =
-      ap (those_meeting station) (along_next words left leg more)
-      ∙ those_next station (leg_at FourWords words leg) (legs_along FourWords words (left - 1) (read_of words (link_word leg)))
-
-  -- So their number is one more, or the same.
-  pub count_along : length (those_meeting station (legs_along FourWords words left leg))
-      ≡ length (those_meeting station (leg_at FourWords words leg ∷ [])) + length (those_meeting station (legs_along FourWords words (left - 1) (read_of words (link_word leg))))
-  count_along = ap length those_along ∙ length-append (those_meeting station (leg_at FourWords words leg ∷ [])) (those_meeting station (legs_along FourWords words (left - 1) (read_of words (link_word leg))))
-
--- None is left.
-pub none_left : (words : Words) (station left leg : ℕ) → left ≡ 0 → those_meeting station (legs_along FourWords words left leg) ≡ []
-unfolding those_meeting
-none_left words station left leg none = ap (λ (n : ℕ). those_meeting station (legs_along FourWords words n leg)) none
-
-pub none_along : (words : Words) (station left leg : ℕ) → left ≡ 0 → length (those_meeting station (legs_along FourWords words left leg)) ≡ 0
-none_along words station left leg none = ap length (none_left words station left leg none)
-
--- One leg alone: whether it meets the station,
+-- Whether one leg alone meets the station.
 module _ (station : ℕ) (leg : NumberedLeg) where
   pub from_there : leg.stations.from ≡ station → meets station leg ≡ true
   unfolding some_holds
@@ -128,14 +95,5 @@ module _ (station : ℕ) (leg : NumberedLeg) where
   from_elsewhere apart = rw (ne_eqb leg.stations.from station apart) (by (eqb leg.stations.to station))
     where
       by : (b : Bool) → cond b true false ≡ b
-      by true = refl
-      by false = refl
-
-  -- and so what it counts for.
-  pub count_one : length (those_meeting station (leg ∷ [])) ≡ cond (meets station leg) 1 0
-  unfolding those_meeting
-  count_one = by (meets station leg)
-    where
-      by : (b : Bool) → length (cond b (leg ∷ []) []) ≡ cond b 1 0
       by true = refl
       by false = refl

@@ -1,24 +1,13 @@
 -- The legs at a station, counted by passage, and how long their list is by these counts.
-use Rattle.std.specs.Prelude.{ℕ, ◌+◌, ◌*◌, ◌≡◌, List, [], ◌∷◌, true, cond, eqb, length}
-use Rattle.words.specs.Words.{Words, words_in_book}
+use Rattle.std.specs.Prelude.{ℕ, ◌+◌, ◌*◌, List, [], ◌∷◌, cond, eqb, length}
 use Rattle.plain.specs.Plain.{Plain}
-use Rattle.soundness.specs.Checking.{is_sound}
 use Rattle.meeting.specs.Meeting.{those_meeting}
 use Rattle.stations.specs.declared.Size.{Size}
-
--- A book of whole length that passed the check.
-abbrev pub SoundBook : Words → Type 0
-SoundBook words = (length words ≡ words_in_book) × (is_sound words ≡ true)
 
 -- How many legs of each passage are at the station.
 unfoldable pub counts_at : ℕ → Plain → List ℕ
 counts_at station [] = []
 counts_at station (legs ∷ lists) = length (those_meeting station legs) ∷ counts_at station lists
-
--- Their sum.
-unfoldable pub sum_of : List ℕ → ℕ
-sum_of [] = 0
-sum_of (count ∷ counts) = count + sum_of counts
 
 -- The passages with a leg there, by counts that start with this passage's.
 unfoldable pub present_from : ℕ → List ℕ → List ℕ

@@ -7,9 +7,10 @@ ghost use Rattle.tickets.specs.Table.{gathered, ElsewhereSame};
 ghost use Rattle.replies.specs.Leaving.{StepsIn, LeftBy};
 
 use replies::Left;
-use tickets::{LookAnswer, Phase, Ticket, Tickets};
+use tickets::{Phase, Ticket, Tickets};
 
-// A step of a team whose ticket is well made, by its phase: one swap.
+// A step of a team whose ticket is well made, by its phase: one swap. A match, since what each may write is told by its own contract; a
+// table of closures would hide it.
 pub fn step(
     book: &mut [u64],
     targets: &mut [u64; Tickets::NUMBERS],
@@ -22,26 +23,21 @@ pub fn step(
     ensures left { LeftBy (step_of book.old (gathered targets.old slot ticket) slot) targets.new slot result.ticket book.new out.old at result.filled out.new }
     ensures others { ElsewhereSame targets.old targets.new slot }
 {
-    let phase = ticket.phase();
-    match phase {
+    match ticket.phase() {
         Phase::Claiming => claiming::claim(book, targets, ticket, slot, out, at),
         Phase::Putting => releasing::put(book, targets, ticket, slot, out, at),
         Phase::GivingBack => releasing::give_back(book, targets, ticket, slot, out, at),
         Phase::Viewing => views::view_claim(book, targets, ticket, slot, out, at),
         Phase::Viewed => views::view_give_back(book, targets, ticket, slot, out, at),
-        Phase::NoTicket => releasing::give_back(book, targets, ticket, slot, out, at),
+        Phase::NoTicket => unreachable!(),
     }
 }
 
-// One look at a word: one read.
-pub fn look(book: &[u64], word: u16) -> LookAnswer
+// One look at a word: one read. There is no value to show where the word is held.
+pub fn look(book: &[u64], word: u16) -> Option<u64>
     requires { word < length book.now }
     ensures { result ≡ look_of book.now word }
 {
     let found = words::read(book, word as usize);
-    if words::is_held(found) {
-        LookAnswer::Held
-    } else {
-        LookAnswer::Value(found)
-    }
+    (!words::is_held(found)).then_some(found)
 }

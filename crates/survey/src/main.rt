@@ -39,13 +39,11 @@ fn read_more(mut stdin: Stdin, buffer: &mut [u8], have: usize) -> usize
     requires { have < length buffer.old }
     ensures { (have + result ≤ length buffer.old) × (take have buffer.new ≡ take have buffer.old) }
 {
-    match stdin.read(&mut buffer[have..]) {
-        Ok(got) => got,
-        Err(_) => 0,
-    }
+    stdin.read(&mut buffer[have..]).unwrap_or(0)
 }
 
-// One read, all that is done after it, one write.
+// One read, all that is done after it, one write. The book, the ranks and both buffers are lent each by itself, as `serve` takes
+// them: no heap, and the stream's contract is of each.
 fn serve_some(
     stdin: Stdin,
     stdout: Stdout,
@@ -78,9 +76,7 @@ fn serve_all(
 {
     let mut tickets = Tickets::fresh();
     let mut have: usize = 0;
-    let mut turns: u64 = 18446744073709551615;
-    while 0 < turns {
-        turns -= 1;
+    for _ in 0..u64::MAX {
         let served = serve_some(stdin, stdout, book, tickets, ranks, buffer, have, out);
         if !served.on {
             return;

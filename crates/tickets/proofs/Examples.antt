@@ -11,7 +11,7 @@ use Rattle.tickets.specs.declared.Phase.TheVariants.{Claiming, Viewing}
 use Rattle.tickets.specs.Tickets.{Ticket}
 use Rattle.tickets.specs.declared.StepAnswer.{StepAnswer}
 use Rattle.tickets.specs.declared.StepAnswer.TheVariants.{Claimed, Waiting, Found, Put, Returned, Granted, Stale, Seen}
-use Rattle.tickets.specs.declared.LookAnswer.TheVariants.{Held, Value}
+use Rattle.std.specs.Prelude.{None, Some}
 use Rattle.tickets.specs.Tickets.{target, no_ticket, all_well_made, well_made}
 use Rattle.tickets.specs.Steps.{swap_tried, settled, value_noted, step_of, look_of}
 use Rattle.tickets.specs.Invariant.{with_slot}
@@ -85,11 +85,11 @@ unfolding steps step_of settled swap_tried
 gives_back = refl
 
 -- While a word is claimed a look shows it as held, and others as they are.
-look_held : look_of (steps book giving (0 ∷ [])).words 3 ≡ Held
+look_held : look_of (steps book giving (0 ∷ [])).words 3 ≡ None
 unfolding steps step_of settled swap_tried
 look_held = refl
 
-look_value : look_of (steps book giving (0 ∷ [])).words 5 ≡ Value 0
+look_value : look_of (steps book giving (0 ∷ [])).words 5 ≡ Some 0
 unfolding steps step_of settled swap_tried
 look_value = refl
 
@@ -108,10 +108,10 @@ viewing words names = record {
 
 -- What a view of one word and one of two words have seen.
 abbrev seen_one : ℕ → StepAnswer
-seen_one first = Seen record { n = 1; first = first; second = 0; third = 0; fourth = 0; fifth = 0; sixth = 0 }
+seen_one first = Seen record { n = 1; values = first ∷ 0 ∷ 0 ∷ 0 ∷ 0 ∷ 0 ∷ [] }
 
 abbrev seen_two : ℕ → ℕ → StepAnswer
-seen_two first second = Seen record { n = 2; first = first; second = second; third = 0; fourth = 0; fifth = 0; sixth = 0 }
+seen_two first second = Seen record { n = 2; values = first ∷ second ∷ 0 ∷ 0 ∷ 0 ∷ 0 ∷ [] }
 
 -- A book in which word 3 is 7 and word 5 is 9.
 abbrev written : Words
@@ -157,7 +157,7 @@ view_notes : (step_of written both 2).0.ticket.quoted ≡ 7 ∷ 0 ∷ []
 unfolding step_of settled swap_tried
 view_notes = refl
 
-view_holds : look_of (steps written (with_slot no_tickets 2 both) (2 ∷ [])).words 3 ≡ Held
+view_holds : look_of (steps written (with_slot no_tickets 2 both) (2 ∷ [])).words 3 ≡ None
 unfolding steps step_of settled swap_tried
 view_holds = refl
 

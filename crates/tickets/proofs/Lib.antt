@@ -16,6 +16,7 @@ pub mod Outcomes
 pub mod Opening
 pub mod Stepping
 pub mod Looking
+pub mod Room
 pub mod Seeing
 pub mod WellMade
 pub mod MadeTables

@@ -9,14 +9,14 @@ use borrow.Author.Tests.{leb-true, leb-false}
 use Rattle.words.specs.Words.{is_held, read_of}
 use Rattle.tickets.specs.declared.Phase.{Phase}
 use Rattle.tickets.specs.declared.Phase.TheVariants.{NoTicket, Claiming, Putting, GivingBack, Viewing, Viewed}
-use Rattle.tickets.specs.declared.LookAnswer.TheVariants.{Held, Value}
+use Rattle.std.specs.Prelude.{None, Some}
 use Rattle.tickets.specs.Tickets.{claims, counts_well_made}
 use Rattle.tickets.specs.Invariant.{HeldTarget, HeldByPhase, OneHolder, PlainAlike, LookRight, LooksRight, UnheldPlain}
 
 pub looks_right : LooksRight
 looks_right words tickets plain word i inside = shown (is_held (read_of words word)) refl
   where
-    shown : (held : Bool) → is_held (read_of words word) ≡ held → LookRight tickets plain word (cond held Held (Value (read_of words word)))
+    shown : (held : Bool) → is_held (read_of words word) ≡ held → LookRight tickets plain word (cond held None (Some (read_of words word)))
     shown true held = i.owned word inside (leb-true (2 ^ 63) _ held)
     shown false held = i.free word inside (leb-false (2 ^ 63) _ held)
 

@@ -151,10 +151,6 @@ counts_fit Viewed n claimed done h =
     let (d, (c, u)) = split (ltb done claimed ∷ eqb claimed n ∷ []) h in
     (ltb-true _ _ d, eqb-true _ _ c)
 
--- The counts' test of a ticket in a known phase.
-pub counts_of : (ticket : Ticket) (phase : Phase) → ticket.phase ≡ phase → counts_well_made ticket.phase ticket.n ticket.claimed ticket.done ≡ counts_well_made phase ticket.n ticket.claimed ticket.done
-counts_of ticket phase e = ap (λ p. counts_well_made p ticket.n ticket.claimed ticket.done) e
-
 -- A well-made ticket in a known phase.
 pub counts_in : (ticket : Ticket) (phase : Phase) → ticket.phase ≡ phase → well_made ticket ≡ true → CountsFit phase ticket.n ticket.claimed ticket.done
 counts_in ticket phase e h = subst (λ p. CountsFit p ticket.n ticket.claimed ticket.done) e (counts_fit ticket.phase ticket.n ticket.claimed ticket.done (made ticket h).counts)

@@ -5,8 +5,8 @@ use mathlib.Core.List.{List, [], ◌∷◌, map}
 use mathlib.Core.Bool.{true, false, cond}
 use native.Mathlib.Omega.{arith}
 use lib.ListN.{length, get_or, set, take, drop}
-use Rattle.words.specs.Tests.{distinct, all_occur}
-use Rattle.words.proofs.Tests.{next_test, failed_test, last_test}
+use Rattle.words.specs.Tests.{distinct}
+use Rattle.words.proofs.Tests.{failed_test}
 use Rattle.words.proofs.Numbers.{next_number, no_number_left}
 use Rattle.tickets.specs.Tickets.{Ticket}
 use Rattle.tickets.specs.Tickets.{target_at, targets_from, words_in, named_in, is_view, names_well_made, view_well_made}
@@ -56,7 +56,3 @@ no_view ticket edit = ap (λ b. cond b (names_well_made (named_in ticket) (words
 pub taken_twice : (ticket : Ticket) → is_view ticket.phase ≡ true → ticket.n ≤ length ticket.new → distinct (take ticket.n ticket.new) ≡ false → view_well_made ticket.phase ticket ≡ false
 taken_twice ticket view most twice =
     ap (λ b. cond b (names_well_made (named_in ticket) (words_in ticket)) true) view ∙ failed_test _ _ (ap distinct (names_taken ticket most) ∙ twice)
-
-pub taken_once : (ticket : Ticket) → is_view ticket.phase ≡ true → ticket.n ≤ length ticket.new → distinct (take ticket.n ticket.new) ≡ true → view_well_made ticket.phase ticket ≡ all_occur (named_in ticket) (words_in ticket)
-taken_once ticket view most once =
-    ap (λ b. cond b (names_well_made (named_in ticket) (words_in ticket)) true) view ∙ next_test _ _ (ap distinct (names_taken ticket most) ∙ once) ∙ last_test _

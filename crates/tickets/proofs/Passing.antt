@@ -14,28 +14,23 @@ use Rattle.tickets.specs.Tickets.{target, target_at, targets_from, targets_in, n
 use Rattle.tickets.specs.Steps.{value_noted, values_named, value_named}
 use Rattle.tickets.proofs.TargetLists.{next_target, no_target_left, length_targets, target_listed}
 
--- The words of the targets from k on, and the words named.
-abbrev pub words_from : ℕ → ℕ → Ticket → List ℕ
-words_from k many ticket = map (λ target. target.word) (targets_from k many ticket)
-
+-- The words named by the targets from k on.
 abbrev pub names_from : ℕ → ℕ → Ticket → List ℕ
 names_from k many ticket = map (λ target. target.new) (targets_from k many ticket)
 
+-- Whether a number is one of those that they have in one part.
+module _ (part : Target → ℕ) (ticket : Ticket) (number n k : ℕ) where
+  pub occurs_here : k < n → part (target_at ticket k) ≡ number → occurs number (map part (targets_from k (n - k) ticket)) ≡ true
+  occurs_here inside here =
+      ap (λ (l : List Target). occurs number (map part l)) (next_target ticket n k inside)
+      ∙ ap (λ b. cond b true (occurs number (map part (targets_from (k + 1) (n - (k + 1)) ticket)))) (eq-eqb _ _ (sym here))
+
+  pub occurs_later : k < n → (part (target_at ticket k) ≡ number → ⊥) → occurs number (map part (targets_from k (n - k) ticket)) ≡ occurs number (map part (targets_from (k + 1) (n - (k + 1)) ticket))
+  occurs_later inside other =
+      ap (λ (l : List Target). occurs number (map part l)) (next_target ticket n k inside)
+      ∙ ap (λ b. cond b true (occurs number (map part (targets_from (k + 1) (n - (k + 1)) ticket)))) (ne_eqb _ _ (λ same. other (sym same)))
+
 module _ (ticket : Ticket) (word n k : ℕ) where
-  -- Whether a word is one of them.
-  pub claims_here : k < n → (target_at ticket k).word ≡ word → occurs word (words_from k (n - k) ticket) ≡ true
-  claims_here inside here =
-      ap (λ (l : List Target). occurs word (map (λ target. target.word) l)) (next_target ticket n k inside)
-      ∙ ap (λ b. cond b true (occurs word (words_from (k + 1) (n - (k + 1)) ticket))) (eq-eqb _ _ (sym here))
-
-  pub claims_later : k < n → ((target_at ticket k).word ≡ word → ⊥) → occurs word (words_from k (n - k) ticket) ≡ occurs word (words_from (k + 1) (n - (k + 1)) ticket)
-  claims_later inside other =
-      ap (λ (l : List Target). occurs word (map (λ target. target.word) l)) (next_target ticket n k inside)
-      ∙ ap (λ b. cond b true (occurs word (words_from (k + 1) (n - (k + 1)) ticket))) (ne_eqb _ _ (λ same. other (sym same)))
-
-  pub claims_none : n ≤ k → occurs word (words_from k (n - k) ticket) ≡ false
-  claims_none none = ap (λ (l : List Target). occurs word (map (λ target. target.word) l)) (no_target_left ticket n k none)
-
   -- The value noted for a word.
   pub noted_here : k < n → (target_at ticket k).word ≡ word → value_noted (targets_from k (n - k) ticket) word ≡ (target_at ticket k).quoted
   unfolding value_noted
@@ -76,20 +71,6 @@ distinct_next ticket n k again inside is =
 pub distinct_none : (ticket : Ticket) (n k : ℕ) → n ≤ k → distinct (names_from k (n - k) ticket) ≡ true
 unfolding distinct
 distinct_none ticket n k none = ap (λ (l : List Target). distinct (map (λ target. target.new) l)) (no_target_left ticket n k none)
-
--- Whether a word is named from target k on.
-pub named_here : (ticket : Ticket) (word n k : ℕ) → k < n → (target_at ticket k).new ≡ word → occurs word (names_from k (n - k) ticket) ≡ true
-named_here ticket word n k inside here =
-    ap (λ (l : List Target). occurs word (map (λ target. target.new) l)) (next_target ticket n k inside)
-    ∙ ap (λ b. cond b true (occurs word (names_from (k + 1) (n - (k + 1)) ticket))) (eq-eqb _ _ (sym here))
-
-pub named_later : (ticket : Ticket) (word n k : ℕ) → k < n → ((target_at ticket k).new ≡ word → ⊥) → occurs word (names_from k (n - k) ticket) ≡ occurs word (names_from (k + 1) (n - (k + 1)) ticket)
-named_later ticket word n k inside other =
-    ap (λ (l : List Target). occurs word (map (λ target. target.new) l)) (next_target ticket n k inside)
-    ∙ ap (λ b. cond b true (occurs word (names_from (k + 1) (n - (k + 1)) ticket))) (ne_eqb _ _ (λ same. other (sym same)))
-
-pub not_named : (ticket : Ticket) (word n k : ℕ) → n ≤ k → occurs word (names_from k (n - k) ticket) ≡ false
-not_named ticket word n k none = ap (λ (l : List Target). occurs word (map (λ target. target.new) l)) (no_target_left ticket n k none)
 
 -- The value noted for the k-th word named.
 map_at : {A : Type 0} (f : A → ℕ) (absent : A) (l : List A) (k : ℕ) → k < length l → get_or (map f l) k 0 ≡ f (get_or l k absent)

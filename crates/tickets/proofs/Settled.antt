@@ -1,28 +1,20 @@
--- How a step settles, by the word found and the counts: the cases of the definition, one law each.
+-- How a step settles, by the word found.
 use Prim.Native.Nat.{ℕ}
 use mathlib.Core.Path.{◌≡◌, refl, ap, ◌∙◌}
-use mathlib.Core.Bool.{true, false, cond}
-use borrow.Author.Tests.{eq-eqb, ne_eqb}
-use Rattle.words.specs.Words.{Words, is_held, read_of, swap_of}
+use mathlib.Core.Bool.{true, false}
+use borrow.Author.Tests.{eq-eqb}
+use Rattle.words.specs.Words.{Words, is_held, swap_of}
 use Rattle.tickets.specs.declared.Phase.{Phase}
-use Rattle.tickets.specs.declared.Phase.TheVariants.{Claiming, GivingBack, Viewing}
+use Rattle.tickets.specs.declared.Phase.TheVariants.{Claiming, Viewing}
 use Rattle.tickets.specs.Tickets.{Ticket}
 use Rattle.tickets.specs.declared.SwapTried.{SwapTried}
 use Rattle.tickets.specs.Steps.{Stepped}
-use Rattle.tickets.specs.declared.StepAnswer.TheVariants.{Found, Stale}
-use Rattle.tickets.specs.declared.LookAnswer.TheVariants.{Held, Value}
-use Rattle.tickets.specs.Tickets.{no_ticket, target_at}
-use Rattle.tickets.specs.Steps.{swap_tried_in, swap_tried, one_more_try, advanced, stepped, claimed, waited, differed, view_waited, view_claimed, settled_in, settled, step_of, look_of}
+use Rattle.tickets.specs.Tickets.{target_at}
+use Rattle.tickets.specs.Steps.{swap_tried_in, swap_tried, claimed, view_waited, view_claimed, settled_in, settled, step_of}
 
--- Claiming: the word is the quoted value, held, or another.
+-- Claiming: the word is the quoted value.
 pub settled_claimed : (ticket : Ticket) (found : ℕ) → found ≡ (target_at ticket ticket.claimed).quoted → settled_in Claiming ticket found ≡ claimed ticket
 settled_claimed ticket found e = rw (eq-eqb found (target_at ticket ticket.claimed).quoted e) refl
-
-pub settled_waited : (ticket : Ticket) (found : ℕ) → (found ≡ (target_at ticket ticket.claimed).quoted → ⊥) → is_held found ≡ true → settled_in Claiming ticket found ≡ waited ticket found
-settled_waited ticket found n h = rw (ne_eqb found (target_at ticket ticket.claimed).quoted n, h) refl
-
-pub settled_differed : (ticket : Ticket) (found : ℕ) → (found ≡ (target_at ticket ticket.claimed).quoted → ⊥) → is_held found ≡ false → settled_in Claiming ticket found ≡ differed ticket
-settled_differed ticket found n h = rw (ne_eqb found (target_at ticket ticket.claimed).quoted n, h) refl
 
 -- A view claiming: the word is held, or a value.
 pub settled_view_waited : (ticket : Ticket) (found : ℕ) → is_held found ≡ true → settled_in Viewing ticket found ≡ view_waited ticket found
@@ -30,13 +22,6 @@ settled_view_waited ticket found h = rw h refl
 
 pub settled_view_claimed : (ticket : Ticket) (found : ℕ) → is_held found ≡ false → settled_in Viewing ticket found ≡ view_claimed ticket found
 settled_view_claimed ticket found h = rw h refl
-
--- Stale at once, or giving back.
-pub differed_first : (ticket : Ticket) → ticket.claimed ≡ 0 → differed ticket ≡ stepped no_ticket (Stale (target_at ticket ticket.claimed).word (one_more_try ticket.tries))
-differed_first ticket e = ap (λ b. cond b (stepped no_ticket (Stale (target_at ticket ticket.claimed).word (one_more_try ticket.tries))) (stepped (advanced ticket GivingBack ticket.claimed 0) (Found (target_at ticket ticket.claimed).word))) (eq-eqb ticket.claimed 0 e)
-
-pub differed_later : (ticket : Ticket) → (ticket.claimed ≡ 0 → ⊥) → differed ticket ≡ stepped (advanced ticket GivingBack ticket.claimed 0) (Found (target_at ticket ticket.claimed).word)
-differed_later ticket n = ap (λ b. cond b (stepped no_ticket (Stale (target_at ticket ticket.claimed).word (one_more_try ticket.tries))) (stepped (advanced ticket GivingBack ticket.claimed 0) (Found (target_at ticket ticket.claimed).word))) (ne_eqb ticket.claimed 0 n)
 
 -- A ticket in a known phase.
 pub tried_in : (words : Words) (ticket : Ticket) (team : ℕ) (phase : Phase) → ticket.phase ≡ phase → swap_tried words ticket team ≡ swap_tried_in phase words ticket team
@@ -59,10 +44,3 @@ step_by_lem words ticket team tried found after result et ef ew er =
     (λ i. (er i, ew i))
     ∙ (λ i. (settled ticket (ef i), (swap_of words tried.word tried.expected tried.desired).words))
     ∙ (λ i. (settled ticket (swap_of words (et i).word (et i).expected (et i).desired).found, (swap_of words (et i).word (et i).expected (et i).desired).words))
-
--- A look, by what it read.
-pub look_held : (words : Words) (word : ℕ) → is_held (read_of words word) ≡ true → Held ≡ look_of words word
-look_held words word h = rw h refl
-
-pub look_value : (words : Words) (word : ℕ) → is_held (read_of words word) ≡ false → Value (read_of words word) ≡ look_of words word
-look_value words word h = rw h refl

@@ -24,14 +24,6 @@ every_slot P tickets team ticket mine before other = elim (ℕ_discrete other te
   | no differs ↦ rw (ne_eqb other team differs) (before other)
 ]
 
--- A team's own ticket put back changes nothing.
-pub slot_unchanged : (tickets : ℕ → Ticket) (team : ℕ) → with_slot tickets team (tickets team) ≡ tickets
-slot_unchanged tickets team = fun_ext (λ other. each other (ℕ_discrete other team))
-  where
-    each : (other : ℕ) → Dec (other ≡ team) → with_slot tickets team (tickets team) other ≡ tickets other
-    each other (yes same) = rw (eq-eqb other team same, same)
-    each other (no differs) = slot_other tickets team other (tickets team) differs
-
 -- The table with another ticket for one team of it, as a function from teams to slots.
 pub table_slots : (table : Tickets) (team : ℕ) (ticket : Ticket) → team < length table.slots → ticket_of (with_ticket table team ticket) ≡ with_slot (ticket_of table) team ticket
 table_slots table team ticket inside = fun_ext (λ other. each other (ℕ_discrete other team))

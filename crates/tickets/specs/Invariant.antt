@@ -1,5 +1,5 @@
 -- The book's words beside the plain words: what a ticket holds, what is true of words, tickets and plain words at all times, and what each step does to it.
-use Rattle.std.specs.Prelude.{ℕ, ◌+◌, ◌^◌, ◌≤◌, ◌<◌, min, ◌≡◌, true, false, cond, map, ◌⊎◌, ◌↔◌, length, eqb}
+use Rattle.std.specs.Prelude.{ℕ, ◌+◌, ◌^◌, ◌≤◌, ◌<◌, min, ◌≡◌, true, false, cond, map, ◌⊎◌, ◌↔◌, length, None, Some, eqb}
 use Rattle.words.specs.Words.{Words, words_in_book, most_named, mark_of, holder_of, read_of}
 use Rattle.tickets.specs.declared.Target.{Target}
 use Rattle.tickets.specs.declared.Phase.{Phase}
@@ -7,10 +7,8 @@ use Rattle.tickets.specs.declared.Phase.TheVariants.{NoTicket, Claiming, Putting
 use Rattle.tickets.specs.Tickets.{Ticket}
 use Rattle.tickets.specs.declared.StepAnswer.{StepAnswer}
 use Rattle.tickets.specs.declared.StepAnswer.TheVariants.{Claimed, Waiting, Found, Put, Returned, Granted, Stale, Seen}
-use Rattle.tickets.specs.declared.LookAnswer.{LookAnswer}
-use Rattle.tickets.specs.declared.LookAnswer.TheVariants.{Held, Value}
 use Rattle.tickets.specs.Tickets.{no_ticket, target_at, targets_in, words_in, named_in, has_ticket, is_view, claims, counts_well_made, names_well_made, well_made}
-use Rattle.tickets.specs.Steps.{swap_tried, most_tries, one_more_try, advanced, stepped, noting, values_named, values_seen, step_of, look_of}
+use Rattle.tickets.specs.Steps.{swap_tried, most_tries, one_more_try, advanced, stepped, noting, values_named, values_seen, step_of, Looked, look_of}
 use Rattle.tickets.specs.Targets.{Claimable, AllMatch, PutInto}
 
 -- Tickets are given as a function from teams to slots. This is it with another ticket in one team's slot.
@@ -226,9 +224,9 @@ ValuesNamed = (size : ℕ) (ticket : Ticket) (plain : ℕ → ℕ)
     → values_named ticket ≡ map plain (named_in ticket)
 
 -- A value that a look shows is the plain word; a word that it shows as held is some team's.
-abbrev pub LookRight : (ℕ → Ticket) → (ℕ → ℕ) → ℕ → LookAnswer → Type 0
-LookRight tickets plain word (Value value) = value ≡ plain word
-LookRight tickets plain word Held = Holder tickets word
+abbrev pub LookRight : (ℕ → Ticket) → (ℕ → ℕ) → ℕ → Looked → Type 0
+LookRight tickets plain word (Some value) = value ≡ plain word
+LookRight tickets plain word None = Holder tickets word
 
 -- Statement: every look is right.
 abbrev pub LooksRight : Type 0

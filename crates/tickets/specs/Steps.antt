@@ -1,6 +1,6 @@
 -- "Tickets and steps": one step is one conditional swap; a look is one read.
-use Rattle.std.specs.Prelude.{ℕ, ◌+◌, cond, List, [], ◌∷◌, map, get_or, set, eqb, ltb}
-use Rattle.words.specs.Words.{Words, is_held, mark_of, holder_of, read_of, swap_of, any_value}
+use Rattle.std.specs.Prelude.{ℕ, ◌+◌, ◌-◌, cond, List, [], ◌∷◌, ◌++◌, map, length, take, get_or, set, replicate, Option, None, Some, eqb, ltb}
+use Rattle.words.specs.Words.{Words, is_held, mark_of, most_named, holder_of, read_of, swap_of, any_value}
 use Rattle.tickets.specs.Tickets.{Ticket, no_ticket, target_at, targets_in, named_in}
 use Rattle.tickets.specs.declared.Target.{Target}
 use Rattle.tickets.specs.declared.Phase.{Phase}
@@ -8,8 +8,6 @@ use Rattle.tickets.specs.declared.Phase.TheVariants.{NoTicket, Claiming, Putting
 use Rattle.tickets.specs.declared.SwapTried.{SwapTried}
 use Rattle.tickets.specs.declared.StepAnswer.{StepAnswer}
 use Rattle.tickets.specs.declared.StepAnswer.TheVariants.{Claimed, Waiting, Found, Put, Returned, Granted, Stale, Seen}
-use Rattle.tickets.specs.declared.LookAnswer.{LookAnswer}
-use Rattle.tickets.specs.declared.LookAnswer.TheVariants.{Held, Value}
 use Rattle.tickets.specs.declared.Values.{Values}
 
 -- A conditional swap of a word, from an expected to a desired value.
@@ -124,21 +122,13 @@ unfoldable pub value_noted : List Target → ℕ → ℕ
 value_noted [] word = 0
 value_noted (target ∷ targets) word = cond (eqb word target.word) target.quoted (value_noted targets word)
 
--- Values in the order named, in room for six: an answer holds no list. One that there is not is 0.
-abbrev pub values_from : ℕ → List ℕ → Values
-values_from n values = record {
-  n = n;
-  first = get_or values 0 0;
-  second = get_or values 1 0;
-  third = get_or values 2 0;
-  fourth = get_or values 3 0;
-  fifth = get_or values 4 0;
-  sixth = get_or values 5 0;
-}
+-- Numbers in room for as many as a view may name: the first of them, and zeros behind.
+abbrev pub in_room : List ℕ → List ℕ
+in_room numbers = take most_named numbers ++ replicate (most_named - length numbers) 0
 
--- The room, as a list.
-abbrev pub values_of : Values → List ℕ
-values_of seen = seen.first ∷ seen.second ∷ seen.third ∷ seen.fourth ∷ seen.fifth ∷ seen.sixth ∷ []
+-- Values in the order named, in their room.
+abbrev pub values_from : ℕ → List ℕ → Values
+values_from n values = record { n = n; values = in_room values }
 
 -- "The values in the order named",
 abbrev pub values_named : Ticket → List ℕ
@@ -182,8 +172,12 @@ step_of words ticket team =
     let swap = swap_of words tried.word tried.expected tried.desired in
     (settled ticket swap.found, swap.words)
 
+-- What a look shows: Value, or Held, which is none.
+abbrev pub Looked : Type 0
+Looked = Option ℕ
+
 -- A look is one read, line 2 of Figure 8, without the loop: Value, or Held if 2^63 or more.
-abbrev pub look_of : Words → ℕ → LookAnswer
+abbrev pub look_of : Words → ℕ → Looked
 look_of words word =
     let found = read_of words word in
-    cond (is_held found) Held (Value found)
+    cond (is_held found) None (Some found)

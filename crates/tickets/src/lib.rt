@@ -79,22 +79,11 @@ pub enum StepAnswer {
     Seen(Values),
 }
 
-// What a view has seen: the values of its n words, in the order named, one field each; room not used is zeros.
+// What a view has seen: the values of its n words, in the order named; room not used is zeros.
 #[derive(Clone, Copy)]
 pub struct Values {
     pub n: u16,
-    pub first: u64,
-    pub second: u64,
-    pub third: u64,
-    pub fourth: u64,
-    pub fifth: u64,
-    pub sixth: u64,
-}
-
-#[derive(Clone, Copy)]
-pub enum LookAnswer {
-    Held,
-    Value(u64),
+    pub values: [u64; Limits::NAMED],
 }
 
 // The phase of a standing ticket, by whether it has words left to claim.
@@ -102,17 +91,11 @@ fn phase_by(kind: Kind, claims: bool) -> Phase
     ensures { result ≡ phase_by kind claims }
 {
     match kind {
-        Kind::Edit => if claims {
-            Phase::Claiming
-        } else {
-            Phase::Putting
-        },
+        Kind::Edit if claims => Phase::Claiming,
+        Kind::Edit => Phase::Putting,
         Kind::Stale => Phase::GivingBack,
-        Kind::View => if claims {
-            Phase::Viewing
-        } else {
-            Phase::Viewed
-        },
+        Kind::View if claims => Phase::Viewing,
+        Kind::View => Phase::Viewed,
     }
 }
 
@@ -120,43 +103,38 @@ impl Ticket {
     // Tries stops rising here.
     pub const MOST_TRIES: u32 = 4294967295;
 
-    // The slot of a team with no ticket.
-    pub fn none() -> Ticket
-        ensures { result ≡ no_slot }
+    // A ticket of n targets, just opened.
+    fn opened(kind: Kind, n: u16) -> Ticket
+        ensures { result ≡ opened_slot kind n }
     {
         Ticket {
             tries: 0,
-            n: 0,
+            n,
             claimed: 0,
             done: 0,
-            kind: Kind::Edit,
+            kind,
         }
+    }
+
+    // The slot of a team with no ticket: an edit's of no targets, all of which are done.
+    pub fn none() -> Ticket
+        ensures { result ≡ no_slot }
+    {
+        Ticket::opened(Kind::Edit, 0)
     }
 
     // An edit's ticket of n targets, just opened,
     pub fn edit(n: u16) -> Ticket
         ensures { result ≡ opened_slot Edit n }
     {
-        Ticket {
-            tries: 0,
-            n: n,
-            claimed: 0,
-            done: 0,
-            kind: Kind::Edit,
-        }
+        Ticket::opened(Kind::Edit, n)
     }
 
     // and a view's.
     pub fn view(n: u16) -> Ticket
         ensures { result ≡ opened_slot View n }
     {
-        Ticket {
-            tries: 0,
-            n: n,
-            claimed: 0,
-            done: 0,
-            kind: Kind::View,
-        }
+        Ticket::opened(Kind::View, n)
     }
 
     // Whether this is a ticket, and no empty slot: a finished one is gone.
@@ -170,10 +148,7 @@ impl Ticket {
     pub fn claims(self) -> bool
         ensures { result ≡ claims_in self }
     {
-        if self.done == 0 {
-            return self.claimed < self.n;
-        }
-        false
+        self.done == 0 && self.claimed < self.n
     }
 
     // Its phase, which follows from its counts.
@@ -181,21 +156,20 @@ impl Ticket {
         ensures { result ≡ phase_of self }
     {
         if self.stands() {
-            let kind = self.kind;
-            return phase_by(kind, self.claims());
+            phase_by(self.kind, self.claims())
+        } else {
+            Phase::NoTicket
         }
-        Phase::NoTicket
     }
 
-    // The tries after one more.
+    // The tries after one more. The scope names the number at which they stop, so that it is compared with and not left to the type.
     fn tried(self) -> u32
         ensures { result ≡ one_more_try self.tries }
     {
-        let tries = self.tries;
-        if tries < Ticket::MOST_TRIES {
-            tries + 1
+        if self.tries < Ticket::MOST_TRIES {
+            self.tries + 1
         } else {
-            tries
+            self.tries
         }
     }
 
@@ -203,13 +177,11 @@ impl Ticket {
     fn advanced(self, claimed: u16, done: u16) -> Ticket
         ensures { result ≡ tried_slot self self.kind claimed done }
     {
-        let kind = self.kind;
         Ticket {
             tries: self.tried(),
-            n: self.n,
-            claimed: claimed,
-            done: done,
-            kind: kind,
+            claimed,
+            done,
+            ..self
         }
     }
 
@@ -262,10 +234,9 @@ impl Ticket {
     {
         Ticket {
             tries: self.tried(),
-            n: self.n,
-            claimed: self.claimed,
             done: 0,
             kind: Kind::Stale,
+            ..self
         }
     }
 }

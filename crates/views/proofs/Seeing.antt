@@ -10,9 +10,11 @@ use lib.Seq.{get_or-set_same, get_or-set_other}
 use Rattle.words.specs.Words.{most_targets, most_named}
 use Rattle.tickets.specs.declared.Kind.TheVariants.{Edit}
 use Rattle.tickets.specs.declared.Target.{Target}
+use Rattle.tickets.specs.declared.Values.{Values}
 use Rattle.tickets.specs.declared.Ticket as Slot
 use Rattle.tickets.specs.Tickets.{Ticket, target_at, targets_from, targets_in}
-use Rattle.tickets.specs.Steps.{value_noted, value_named, values_from, values_seen}
+use Rattle.tickets.specs.Steps.{value_noted, values_named, value_named, values_from, values_seen}
+use Rattle.tickets.proofs.Room.{in_room_by}
 use Rattle.tickets.specs.Table.{place_of, target_standing, opened_slot, standing, targets_of}
 use Rattle.tickets.proofs.Tables.{target_stands, targets_alike}
 use Rattle.tickets.proofs.Passing.{noted_here, noted_later, shown_value, no_value_shown}
@@ -73,23 +75,16 @@ shown_next values ticket k value so_far room is = record {
   rest = λ j behind. get_or-set_other values k j value 0 (λ same. omega (arith, same, behind)) ∙ so_far.rest j (omega (arith, behind));
 }
 
-pub shown_all : (values : List ℕ) (ticket : Ticket) (k : ℕ) → ShownTo values ticket k → ticket.n ≤ k → (j : ℕ) → get_or values j 0 ≡ value_named ticket j
+shown_all : (values : List ℕ) (ticket : Ticket) (k : ℕ) → ShownTo values ticket k → ticket.n ≤ k → (j : ℕ) → get_or values j 0 ≡ value_named ticket j
 shown_all values ticket k so_far all j = elim (dec_lt j k) [
   | yes below ↦ so_far.shown j below
   | no behind ↦ so_far.rest j (omega (arith, behind)) ∙ sym (no_value_shown ticket j (omega (arith, behind, all)))
 ]
 
 -- So they are the values seen.
-pub values_seen_by : (values : List ℕ) (ticket : Ticket) → ((k : ℕ) → get_or values k 0 ≡ value_named ticket k) → values_from ticket.n values ≡ values_seen ticket
-values_seen_by values ticket each = λ i. record {
-  n = ticket.n;
-  first = each 0 i;
-  second = each 1 i;
-  third = each 2 i;
-  fourth = each 3 i;
-  fifth = each 4 i;
-  sixth = each 5 i;
-}
+pub values_seen_by : (values : List ℕ) (ticket : Ticket) (k : ℕ) → ShownTo values ticket k → ticket.n ≤ k → ◌≡◌ {A = Values} record { n = ticket.n; values = values } (values_seen ticket)
+values_seen_by values ticket k so_far all =
+    ap (λ (room : List ℕ). record { n = ticket.n; values = room }) (in_room_by (values_named ticket) values so_far.long (λ j _. shown_all values ticket k so_far all j))
 
 -- Of a standing view too, whose targets are those.
 pub standing_seen : (targets : List ℕ) (team : ℕ) (slot : Slot.Ticket) → values_seen (targets_of targets team slot.n) ≡ values_seen (standing targets team slot)

@@ -6,7 +6,7 @@ use mathlib.Core.List.{List, [], ◌∷◌}
 use native.Mathlib.Omega.{arith}
 use borrow.Author.Tests.{leb-true}
 use lib.Dec.{leb}
-use lib.ListN.{length, get_or}
+use lib.ListN.{length}
 use lib.Seq.{get_or-set_other}
 use Rattle.words.specs.Words.{Words, most_named, is_held, mark_of, holder_of, read_of, swap_of, any_value}
 use Rattle.words.specs.Tests.{within}
@@ -14,9 +14,10 @@ use Rattle.words.proofs.Tests.{split}
 use Rattle.tickets.specs.declared.Phase.TheVariants.{Viewing, Viewed}
 use Rattle.tickets.specs.declared.StepAnswer.TheVariants as Answer
 use Rattle.tickets.specs.declared.Target.{Target}
+use Rattle.tickets.specs.declared.Values.{Values}
 use Rattle.tickets.specs.declared.Ticket as Slot
 use Rattle.tickets.specs.Tickets.{Ticket, no_ticket, target_at, most_of}
-use Rattle.tickets.specs.Steps.{Stepped, tries, advanced, stepped, view_claimed, view_waited, values_from, value_named, values_seen, view_given_back, swap_tried_in, step_of}
+use Rattle.tickets.specs.Steps.{Stepped, tries, advanced, stepped, view_claimed, view_waited, values_seen, view_given_back, swap_tried_in, step_of}
 use Rattle.tickets.specs.Table.{target_room, place_of, target_standing, noted_at, tried_slot, done_with_one, stands_in, standing, targets_of, gathered, ElsewhereSame}
 use Rattle.tickets.proofs.Gathering.{gathered_tried}
 use Rattle.tickets.proofs.Made.{well_made_parts}
@@ -26,7 +27,7 @@ use Rattle.frames.specs.Numbers.{Bytes}
 use Rattle.replies.specs.Leaving.{Answered, StepsFrom, LeftBy}
 use Rattle.replies.proofs.Standing.{phase_tells, given_more, given_last, made_stands, is_standing, standing_phase, well_standing, few_targets, target_read, counts_there}
 use Rattle.replies.proofs.Stepping.{step_left}
-use Rattle.views.proofs.Seeing.{values_seen_by, standing_seen}
+use Rattle.views.proofs.Seeing.{standing_seen}
 
 -- A view that gives back names at most so many words.
 pub few_named : (words : Words) (targets : List ℕ) (team : ℕ) (slot : Slot.Ticket) (out : Bytes) (at : ℕ) → StepsFrom Viewed words targets team slot out at → slot.n ≤ most_named
@@ -102,10 +103,9 @@ module _ (words : Words) (targets : List ℕ) (team : ℕ) (slot : Slot.Ticket) 
   pub next_claimed : (slot.done < slot.claimed) × (slot.claimed ≡ slot.n)
   next_claimed = counts_there targets team slot known.steps_in.made Viewed known.phase_known
 
-  module _ (next : Target) (mark : ℕ) (after : Words) (left : Slot.Ticket) (place : ℕ) (output : Bytes)
+  module _ (next : Target) (after : Words) (left : Slot.Ticket) (place : ℕ) (output : Bytes)
       (next_is : next ≡ target_standing targets team slot.done)
-      (marks : mark ≡ mark_of team)
-      (leaves : after ≡ (swap_of words next.word mark next.quoted).words)
+      (leaves : after ≡ (swap_of words next.word (mark_of team) next.quoted).words)
       (is : left ≡ tried_slot slot slot.kind slot.claimed (done_with_one slot)) where
     abbrev stands_there : Ticket
     stands_there = standing targets team slot
@@ -116,8 +116,8 @@ module _ (words : Words) (targets : List ℕ) (team : ℕ) (slot : Slot.Ticket) 
         let made = known.steps_in.made in
         let (below, all) = next_claimed in
         let read = next_is ∙ sym (target_read targets team slot made slot.done (omega (arith, below, all))) in
-        step_left Viewed words targets team slot out at known (tries next.word mark next.quoted) _ after (view_given_back stands_there) targets left place output
-        (λ i. tries (read i).word (marks i) (read i).quoted) refl leaves refl
+        step_left Viewed words targets team slot out at known (tries next.word (mark_of team) next.quoted) _ after (view_given_back stands_there) targets left place output
+        (λ i. tries (read i).word (mark_of team) (read i).quoted) refl leaves refl
         (ap (gathered targets team) is
         ∙ gathered_seen targets team slot (phase_tells slot Viewed known.phase_known) below (omega (arith, all))
         ∙ ap (λ (t : Ticket). (view_given_back t).ticket) (is_standing targets team slot made))
@@ -134,9 +134,9 @@ module _ (words : Words) (targets : List ℕ) (team : ℕ) (slot : Slot.Ticket) 
         view_given (subst (λ told. Answered out at told place output) (ap (λ (s : Slot.Ticket). Answer.Returned s.done) is ∙ ap Answer.Returned counts ∙ sym (ap (λ b. (by b).answer) more)) answer)
 
     -- and else Seen, with the values.
-    pub view_sees : (values : List ℕ) → stands_in left ≡ false → ((k : ℕ) → get_or values k 0 ≡ value_named (targets_of targets team slot.n) k) → Answered out at (Answer.Seen (values_from slot.n values)) place output
+    pub view_sees : (seen : Values) → stands_in left ≡ false → seen ≡ values_seen (targets_of targets team slot.n) → Answered out at (Answer.Seen seen) place output
         → LeftBy (step_of words (gathered targets team slot) team) targets team left after out at place output
-    view_sees values gone each answer =
+    view_sees seen gone is_seen answer =
         let (below, all) = next_claimed in
         let last = given_last slot slot.kind below (omega (arith, all)) (sym (ap stands_in is) ∙ gone) in
-        view_given (subst (λ told. Answered out at told place output) (ap Answer.Seen (values_seen_by values (targets_of targets team slot.n) each ∙ standing_seen targets team slot) ∙ sym (ap (λ b. (by b).answer) last)) answer)
+        view_given (subst (λ told. Answered out at told place output) (ap Answer.Seen (is_seen ∙ standing_seen targets team slot) ∙ sym (ap (λ b. (by b).answer) last)) answer)

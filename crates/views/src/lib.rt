@@ -5,24 +5,20 @@ ghost use Rattle.std.specs.Prelude.{◌≡◌, ℕ, ◌*◌, ◌≤◌, ◌<◌,
 ghost use Rattle.words.specs.Words.{team_count, most_targets, most_named};
 ghost use Rattle.tickets.specs.declared.Phase.TheVariants.{Viewing, Viewed};
 ghost use Rattle.tickets.specs.Tickets.{targets_in};
-ghost use Rattle.tickets.specs.Steps.{value_noted, value_named, step_of};
+ghost use Rattle.tickets.specs.Steps.{value_noted, values_seen, step_of};
 ghost use Rattle.tickets.specs.Table.{target_room, noted_at, targets_of, gathered, ElsewhereSame};
 ghost use Rattle.replies.specs.Leaving.{StepsFrom, LeftBy};
 
 use replies::Left;
-use tickets::{Ticket, Tickets};
+use tickets::{StepAnswer, Ticket, Tickets, Values};
 use words::Limits;
 
 // Notes the value found for target k, in the place of a quoted one.
 fn note(targets: &mut [u64; Tickets::NUMBERS], slot: usize, k: u16, found: u64)
     requires { (slot < team_count) × (k < target_room) }
-    ensures noted { targets.new ≡ noted_at targets.old slot k found }
-    ensures long { length targets.old ≡ 3 * (target_room * team_count) }
+    ensures { targets.new ≡ noted_at targets.old slot k found }
 {
-    // Lent as a slice its length is known; nothing is done with it.
-    let whole: &[u64] = targets;
-    let at = Tickets::place(slot, k) + 1;
-    targets[at] = found;
+    targets[Tickets::place(slot, k) + 1] = found;
 }
 
 // One step of a view that claims: one swap, which takes any value.
@@ -39,20 +35,14 @@ pub fn view_claim(
     ensures others { ElsewhereSame targets.old targets.new slot }
 {
     let target = replies::target_at(targets, slot, ticket.claimed);
-    let word = target.word as usize;
     let mark = words::mark(slot as u16);
-    let report = words::swap_any_value(book, word, mark);
-    let found = report.found;
+    let found = words::swap_any_value(book, target.word as usize, mark).found;
     if words::is_held(found) {
         return replies::waited(ticket, target.word, found, out, at);
     }
     note(targets, slot, ticket.claimed, found);
     let after = ticket.claim();
-    let filled = replies::put_claimed(out, at, after.claimed);
-    Left {
-        ticket: after,
-        filled: filled,
-    }
+    replies::leave(after, StepAnswer::Claimed(after.claimed), out, at)
 }
 
 // The value noted for a word.
@@ -60,33 +50,30 @@ fn value_noted(targets: &[u64; Tickets::NUMBERS], slot: usize, n: u16, word: u64
     requires { (slot < team_count) × (n ≤ most_targets) }
     ensures { result ≡ value_noted (targets_in (targets_of targets.now slot n)) word }
 {
-    let mut k: u16 = 0;
-    while k < n {
+    for k in 0..n {
         let at = Tickets::place(slot, k);
         if targets[at] == word {
             return targets[at + 1];
         }
-        k += 1;
     }
     0
 }
 
 // The values noted, in the order named.
-fn values_seen(targets: &[u64; Tickets::NUMBERS], slot: usize, n: u16) -> [u64; Limits::NAMED]
+fn values_seen(targets: &[u64; Tickets::NUMBERS], slot: usize, n: u16) -> Values
     requires { (slot < team_count) × (n ≤ most_named) }
-    ensures { (k : ℕ) → get_or result k 0 ≡ value_named (targets_of targets.now slot n) k }
+    ensures { result ≡ values_seen (targets_of targets.now slot n) }
 {
     let mut values = [0; Limits::NAMED];
-    let mut k: u16 = 0;
-    while k < n {
-        let at = Tickets::place(slot, k) + 2;
-        values[k as usize] = value_noted(targets, slot, n, targets[at]);
-        k += 1;
+    for k in 0..n {
+        let name = targets[Tickets::place(slot, k) + 2];
+        values[k as usize] = value_noted(targets, slot, n, name);
     }
-    values
+    Values { n, values }
 }
 
-// One step of a view that gives back: one conditional swap.
+// One step of a view that gives back: one conditional swap. It differs from an edit's in its last answer, which is worked out only then:
+// a function of both would be handed a closure for these two lines.
 pub fn view_give_back(
     book: &mut [u64],
     targets: &[u64; Tickets::NUMBERS],
@@ -99,21 +86,11 @@ pub fn view_give_back(
     ensures { LeftBy (step_of book.old (gathered targets.now slot ticket) slot) targets.now slot result.ticket book.new out.old at result.filled out.new }
 {
     let target = replies::target_at(targets, slot, ticket.done);
-    let word = target.word as usize;
-    let mark = words::mark(slot as u16);
-    words::conditional_swap(book, word, mark, target.quoted);
+    replies::release(book, slot, target.word, target.quoted);
     let after = ticket.give_back();
     if after.stands() {
-        let filled = replies::put_returned(out, at, after.done);
-        return Left {
-            ticket: after,
-            filled: filled,
-        };
+        return replies::leave(after, StepAnswer::Returned(after.done), out, at);
     }
-    let values = values_seen(targets, slot, ticket.n);
-    let filled = replies::put_seen(out, at, values, ticket.n);
-    Left {
-        ticket: after,
-        filled: filled,
-    }
+    let seen = values_seen(targets, slot, ticket.n);
+    replies::leave(after, StepAnswer::Seen(seen), out, at)
 }

@@ -1,9 +1,9 @@
 // The words of the book: limits, the layout, marks, the conditional swap and the read.
 #![tactic(auto)]
 
-ghost use Rattle.std.specs.Prelude.{◌≡◌, Bool, true, ◌≤◌, ◌<◌, length, take, drop};
+ghost use Rattle.std.specs.Prelude.{◌≡◌, Bool, true, ◌≤◌, ◌<◌, length, set, cond};
 ghost use Rattle.words.specs.Tests.{occurs, distinct};
-ghost use Rattle.words.specs.Words.{team_count, most_named, passage_count, last_leg_in, last_leg, is_held, mark_of, holder_of, newest_word, count_word, link_word_in, link_word, place_word, measure_word, newer_word, read_of, swap_of, any_value};
+ghost use Rattle.words.specs.Words.{team_count, passage_count, last_leg_in, last_leg, is_held, mark_of, holder_of, newest_word, count_word, link_word_in, link_word, place_word, measure_word, newer_word, read_of, swap_of, any_value};
 
 // The limits of the book and its layout.
 #[derive(Drop)]
@@ -160,6 +160,24 @@ pub fn read(book: &[u64], at: usize) -> u64
     book[at]
 }
 
+// Reports the word found, with its holder, and stores another one where the word passes a test.
+fn swap_where<F: Fn(u64) -> bool>(book: &mut [u64], at: usize, test: F, desired: u64) -> Report
+    requires in_book { at < length book.old }
+    requires callable { F.IsAlwaysCallable test }
+    ensures found { result.found ≡ read_of book.old at }
+    ensures holder { result.holder ≡ holder_of (read_of book.old at) }
+    ensures words { (passes : Bool) × F.post test (read_of book.old at) passes × (book.new ≡ cond passes (set book.old at desired) book.old) }
+{
+    let found = book[at];
+    if test(found) {
+        book[at] = desired;
+    }
+    Report {
+        found,
+        holder: holder(found),
+    }
+}
+
 // The conditional swap, also called compare-and-swap (Figure 1): reports the word found, and its holder.
 pub fn conditional_swap(book: &mut [u64], at: usize, expected: u64, desired: u64) -> Report
     requires { at < length book.old }
@@ -167,15 +185,7 @@ pub fn conditional_swap(book: &mut [u64], at: usize, expected: u64, desired: u64
     ensures holder { result.holder ≡ (swap_of book.old at expected desired).holder }
     ensures words { book.new ≡ (swap_of book.old at expected desired).words }
 {
-    let found = book[at];
-    let report = Report {
-        found: found,
-        holder: holder(found),
-    };
-    if found == expected {
-        book[at] = desired;
-    }
-    report
+    swap_where(book, at, |found| found == expected, desired)
 }
 
 // The conditional swap that expects whatever value it finds: a mark alone stays.
@@ -185,43 +195,27 @@ pub fn swap_any_value(book: &mut [u64], at: usize, desired: u64) -> Report
     ensures holder { result.holder ≡ (swap_of book.old at (any_value (read_of book.old at)) desired).holder }
     ensures words { book.new ≡ (swap_of book.old at (any_value (read_of book.old at)) desired).words }
 {
-    let found = book[at];
-    let report = Report {
-        found: found,
-        holder: holder(found),
-    };
-    if !is_held(found) {
-        book[at] = desired;
-    }
-    report
+    swap_where(book, at, |found| !is_held(found), desired)
 }
 
-// Whether a number is among the first n, from one on.
-pub fn occurs_from(numbers: [u64; Limits::NAMED], from: usize, n: usize, number: u64) -> bool
-    requires { n ≤ most_named }
-    ensures { result ≡ occurs number (drop from (take n numbers)) }
+// Whether a number stands among some.
+pub fn occurs(numbers: &[u64], number: u64) -> bool
+    ensures { result ≡ occurs number numbers.now }
 {
-    let mut k = from;
-    while k < n {
-        if numbers[k] == number {
-            return true;
-        }
-        k += 1;
-    }
-    false
+    numbers.contains(&number)
 }
 
-// Whether no number is twice among the first n.
-pub fn distinct(numbers: [u64; Limits::NAMED], n: usize) -> bool
-    requires { n ≤ most_named }
-    ensures { result ≡ distinct (take n numbers) }
+// Whether no number stands twice among some.
+#[tactic(auto, unfolding(crate::specs::Tests::distinct))]
+pub fn distinct(numbers: &[u64]) -> bool
+    ensures { result ≡ distinct numbers.now }
 {
-    let mut k: usize = 0;
-    while k < n {
-        if occurs_from(numbers, k + 1, n, numbers[k]) {
+    let mut rest = numbers;
+    while let Some((number, later)) = rest.split_first() {
+        if occurs(later, *number) {
             return false;
         }
-        k += 1;
+        rest = later;
     }
     true
 }

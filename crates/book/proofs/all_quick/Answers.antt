@@ -1,41 +1,32 @@
--- `book::all_quick` meets its contract: one slot after another.
-use native.Mathlib.Omega.{arith}
-use native.Mathlib.Nat.{not-suc-le-zero}
-use native.Mathlib.Decide.{ℕ_discrete}
-use Prim.Native.Nat.{ℕ, ◌+◌, ◌<◌}
-use mathlib.Core.Bool.{Bool}
+-- `book::all_quick` meets its contract: the map asks the same of one slot after another, since no call changes the closure.
+use Prim.Native.Nat.{ℕ, zero, suc, ◌+◌, ◌≤◌, ◌<◌}
+use mathlib.Core.Path.{◌≡◌, sym, ap, subst, ◌∙◌}
 use mathlib.Core.List.{List}
-use mathlib.Core.Path.{◌≡◌, sym, ap, ◌∙◌}
-use lib.ListN.{length, get_or, set, length-set}
-use lib.Seq.{get_or-set_same, get_or-set_other}
-use Rattle.tickets.specs.declared.Ticket as Slot
+use native.Mathlib.Omega.{arith}
+use native.Mathlib.Decide.{ℕ_discrete}
+use lib.ListN.{get_or}
+use borrow.Author.Rules.{rules}
+use denote.Param.Members.{Mut}
+use Rattle.std.specs.Fn.{Called}
+use Rattle.std.specs.Array.{MapsFrom}
 use Rattle.tickets.specs.Table.{no_slot}
 use Rattle.book.specs.Quickly.{quick_for}
-use borrow.Author.Rules.{rules}
 use Rattle.book.proofs.all_quick.Goals as goal
 
--- One slot more.
-one_more : (quick : List ℕ) (slots : List Slot.Ticket) (known : Bool) (team value : ℕ) → team < length quick
-    → ((k : ℕ) → k < team → get_or quick k 0 ≡ quick_for known (get_or slots k no_slot)) → value ≡ quick_for known (get_or slots team no_slot)
-    → (k : ℕ) → k < team + 1 → get_or (set quick team value) k 0 ≡ quick_for known (get_or slots k no_slot)
-one_more quick slots known team value inside before is k below = elim (ℕ_discrete k team) [
-  | yes same ↦ ap (λ (j : ℕ). get_or (set quick team value) j 0) same ∙ get_or-set_same quick team value 0 inside ∙ is ∙ ap (λ (j : ℕ). quick_for known (get_or slots j no_slot)) (sym same)
-  | no other ↦ get_or-set_other quick team k value 0 other ∙ before k (omega (arith, other, below))
-]
-
-pub loop-team-init : goal.loop-team-init
-loop-team-init c = (search rules, λ k none. absurd (not-suc-le-zero none), omega arith)
-
-pub loop-team-preserved : goal.loop-team-preserved
-loop-team-preserved c =
-    let loop = c.loop-team in
-    let taken = c.loop-team-test.true in (
-      length-set loop.quick loop.team c.quick_of.result ∙ loop.invariant.0,
-      one_more loop.quick c.args.slots c.args.known loop.team c.quick_of.result (omega (arith, taken, loop.invariant.0)) loop.invariant.1 c.quick_of.ensures,
-      omega (arith, taken),
-    )
+mapped : {F A B : Type 0} (g : Mut F (A × Unit {0}) B) (h : A → B) (f : F) → ((x : A) (y : B) (q : F) → Called g f (x, tt) y q → (q ≡ f) × (y ≡ h x))
+    → (xs : List A) (ys : List B) (i n : ℕ) → MapsFrom g f xs ys i n → (k : ℕ) → i ≤ k → k < i + n → (d : A) (e : B) → get_or ys k e ≡ h (get_or xs k d)
+mapped g h f same xs ys i zero run k from below d e = absurd (omega (arith, from, below))
+mapped g h f same xs ys i (suc n) run k from below d e =
+    let (q, x, y, is_x, is_y, called, rest) = run in
+    let (kept, is) = same x y q called in
+    elim (ℕ_discrete k i) [
+      | yes here ↦ ap (λ (j : ℕ). get_or ys j e) here ∙ is_y.1 e ∙ is ∙ ap h (sym (ap (λ (j : ℕ). get_or xs j d) here ∙ is_x.1 d))
+      | no later ↦ mapped g h f same xs ys (i + 1) n (subst (λ s. MapsFrom g s xs ys (i + 1) n) kept rest) k (omega (arith, from, later)) (omega (arith, below)) d e
+    ]
 
 pub returns : goal.returns
-returns c =
-    let loop = c.loop-team in
-    record { slots_room = c.well_formed.0.1.0.1; room = loop.invariant.0; each = λ team inside. loop.invariant.1 team (omega (arith, inside, c.loop-team-test.false)) }
+returns c = record {
+  slots_room = c.well_formed.0.1.0.1;
+  room = c.map.ensures.items.long;
+  each = λ team inside. mapped _ (quick_for c.args.known) _ (λ x y q called. search rules) c.args.slots c.map.result 0 16 c.map.ensures.items.each team (omega arith) (omega (arith, inside)) no_slot 0;
+}

@@ -1,7 +1,8 @@
 -- `book::answer_frames` meets its contract. The loop's invariant: what the definition makes of what is left is what it makes of the whole.
+use Rattle.std.specs.Prelude.{Result, Ok}
 use native.Mathlib.Omega.{arith}
 use Prim.Native.Nat.{ℕ, ◌-◌, ◌<◌}
-use mathlib.Core.Path.{◌≡◌, refl, sym, subst, ◌∙◌}
+use mathlib.Core.Path.{◌≡◌, refl, sym, ap, subst, ◌∙◌}
 use mathlib.Core.List.{List}
 use lib.ListN.{length}
 use Rattle.tickets.specs.Table.{table_with, table_of}
@@ -21,21 +22,21 @@ use Rattle.book.proofs.Stepping.{ends_ahead, other_than_step, quick_at, says, we
 use borrow.Author.Rules.{rules}
 use Rattle.book.proofs.answer_frames.Goals as goal
 use Rattle.book.proofs.answer_frames.Goals.{In-Step, In-Other, After-slice_known-in-Step-1}
-use Rattle.calls.specs.declared.Aim.{Aim}
-use Rattle.calls.specs.Way.{aim_of, AimKnown}
+use Rattle.calls.specs.Way.{Aim}
+use Rattle.calls.specs.Way.{aim_numbered, aim_of, AimKnown}
 use Rattle.frames.specs.Numbers.{Bytes}
 
 -- Where a team's step is answered: the team, the frame found, the turn, and what the stream keeps beside its table.
 abbrev team_at : In-Step → ℕ
 team_at c = c.in-Step.team
 
-step_inside : (c : In-Step) → AheadInside c.args.input.now c.loop-stop.at (length c.loop-stop.out - c.loop-stop.filled) (Ahead.Step (team_at c))
-step_inside c = subst (AheadInside c.args.input.now c.loop-stop.at (length c.loop-stop.out - c.loop-stop.filled)) c.in-Step.is c.next_at-next.ensures.1
+step_inside : (c : In-Step) → AheadInside c.args.input.now c.loop-next.at (length c.loop-next.out - c.loop-next.filled) (Ok (Ahead.Step (team_at c)))
+step_inside c = subst (AheadInside c.args.input.now c.loop-next.at (length c.loop-next.out - c.loop-next.filled)) (c.in-Ok.is ∙ ap Ok c.in-Step.is) c.next_at.ensures.1
 
 abbrev step_turn : In-Step → Turn
 step_turn c =
     let args = c.args in
-    let loop = c.loop-stop in
+    let loop = c.loop-next in
     record {
       ranks = args.ranks.now;
       input = args.input.now;
@@ -51,16 +52,16 @@ step_turn c =
       bytes = each_byte _ (λ (k : ℕ). omega (arith, c.shared_slice_known-2-1.given k));
       size = step_bytes;
       ahead = (step_inside c).0;
-      aim = Aim.Team step_kind (team_at c);
+      aim = Ok (Aim.Team step_kind (team_at c));
       aimed = (step_inside c).1;
       aim_known = (step_inside c).2;
     }
 
 abbrev quick_list : In-Step → List ℕ
-quick_list c = c.loop-stop.quick
+quick_list c = c.loop-next.quick
 
 quick_kept : (c : In-Step) → QuickSlots (step_turn c).known (step_turn c).table.slots (quick_list c)
-quick_kept c = c.loop-stop.invariant.1
+quick_kept c = c.loop-next.invariant.1
 
 team_below : (c : In-Step) → team_at c < team_count
 team_below c = (step_inside c).2.2
@@ -76,17 +77,17 @@ book_whole c = search rules
 abbrev size_at : In-Other → ℕ
 size_at c = c.in-Other.size
 
-other_inside : (c : In-Other) → FrameAhead c.args.input.now c.loop-stop.at (length c.loop-stop.out - c.loop-stop.filled) (size_at c)
-other_inside c = subst (AheadInside c.args.input.now c.loop-stop.at (length c.loop-stop.out - c.loop-stop.filled)) c.in-Other.is c.next_at-next.ensures.1
+other_inside : (c : In-Other) → FrameAhead c.args.input.now c.loop-next.at (length c.loop-next.out - c.loop-next.filled) (size_at c)
+other_inside c = subst (AheadInside c.args.input.now c.loop-next.at (length c.loop-next.out - c.loop-next.filled)) (c.in-Ok.is ∙ ap Ok c.in-Other.is) c.next_at.ensures.1
 
 abbrev frame_there : In-Other → Bytes
-frame_there c = frame_at c.args.input.now c.loop-stop.at (size_at c)
+frame_there c = frame_at c.args.input.now c.loop-next.at (size_at c)
 
 -- The turn of a frame whose aim was told.
-abbrev other_turn : (c : In-Other) (aim : Aim) → (aim ≡ aim_of (frame_there c)) × AimKnown (frame_there c) aim → Turn
+abbrev other_turn : (c : In-Other) (aim : Result Aim ℕ) → (aim ≡ aim_of (frame_there c)) × AimKnown (frame_there c) aim → Turn
 other_turn c aim told =
     let args = c.args in
-    let loop = c.loop-stop in
+    let loop = c.loop-next in
     record {
       ranks = args.ranks.now;
       input = args.input.now;
@@ -108,12 +109,12 @@ other_turn c aim told =
     }
 
 -- It is no team's step.
-no_step : (c : In-Other) (aim : Aim) → (aim ≡ aim_of (frame_there c)) × AimKnown (frame_there c) aim → NoStep aim
+no_step : (c : In-Other) (aim : Result Aim ℕ) → (aim ≡ aim_of (frame_there c)) × AimKnown (frame_there c) aim → NoStep aim
 no_step c aim told =
-    other_than_step c.args.input.now c.loop-stop.at (length c.loop-stop.out - c.loop-stop.filled) (size_at c) aim (sym c.next_at-next.ensures.0 ∙ c.in-Other.is) told.0
+    other_than_step c.args.input.now c.loop-next.at (length c.loop-next.out - c.loop-next.filled) (size_at c) aim (sym c.next_at.ensures.0 ∙ (c.in-Ok.is ∙ ap Ok c.in-Other.is)) told.0
 
-pub loop-stop-init : goal.loop-stop-init
-loop-stop-init c = (
+pub loop-next-init : goal.loop-next-init
+loop-next-init c = (
   record {
     book = c.requires.0;
     inside = omega arith;
@@ -127,21 +128,21 @@ loop-stop-init c = (
 )
 
 pub overflow_sub-out : goal.overflow_sub-out
-overflow_sub-out c = c.loop-stop.invariant.0.fits
+overflow_sub-out c = c.loop-next.invariant.0.fits
 
-pub next_at-next-requires : goal.next_at-next-requires
-next_at-next-requires c = c.loop-stop.invariant.0.inside
+pub next_at-requires : goal.next_at-requires
+next_at-requires c = c.loop-next.invariant.0.inside
 
-pub returns-in-End : goal.returns-in-End
-returns-in-End c =
-    let loop = c.loop-stop in
+pub returns-in-Err : goal.returns-in-Err
+returns-in-Err c =
+    let loop = c.loop-next in
     let left = loop.invariant.0.left in
     let is = c.stopped.ensures in
     let made = c.table_with.ensures in (
       (omega (arith, is.1, loop.invariant.0.inside), omega (arith, is.2, loop.invariant.0.fits, loop.invariant.0.same_length)),
       (λ i. (is.0 i, loop.book, loop.out))
-          ∙ (λ i. (streamed (table_of (made i)) loop.at loop.filled c.in-End.stop, loop.book, loop.out))
-          ∙ sym (ends_ahead loop.book (table_with loop.slots loop.targets) _ c.args.input.now loop.out loop.at loop.filled left.most _ left.enough (sym c.next_at-next.ensures.0 ∙ c.in-End.is))
+          ∙ (λ i. (streamed (table_of (made i)) loop.at loop.filled c.in-Err.stop, loop.book, loop.out))
+          ∙ sym (ends_ahead loop.book (table_with loop.slots loop.targets) _ c.args.input.now loop.out loop.at loop.filled left.most _ left.enough (sym c.next_at.ensures.0 ∙ c.in-Err.is))
           ∙ left.is,
     )
 
@@ -184,12 +185,12 @@ bounds-slots-slot-then-tried c = omega (arith, team_below (goal.at.bounds-slots-
 pub put_told-filled-requires : goal.put_told-filled-requires
 put_told-filled-requires c = step_room (goal.at.put_told-filled-requires c).In-Step
 
-pub loop-stop-smaller-then-tried : goal.loop-stop-smaller-then-tried
-loop-stop-smaller-then-tried c = let inside = (step_inside (goal.at.loop-stop-smaller-then-tried c).In-Step).0.inside in omega (arith, inside)
+pub loop-next-smaller-then-tried : goal.loop-next-smaller-then-tried
+loop-next-smaller-then-tried c = let inside = (step_inside (goal.at.loop-next-smaller-then-tried c).In-Step).0.inside in omega (arith, inside)
 
-pub loop-stop-preserved-then-tried : goal.loop-stop-preserved-then-tried
-loop-stop-preserved-then-tried c =
-    went_on (step_turn (goal.at.loop-stop-preserved-then-tried c).In-Step) (team_at (goal.at.loop-stop-preserved-then-tried c).In-Step) refl (quick_list (goal.at.loop-stop-preserved-then-tried c).In-Step) (quick_kept (goal.at.loop-stop-preserved-then-tried c).In-Step) c.try_quick-tried.result c.try_quick-tried.new.book (book_whole (goal.at.loop-stop-preserved-then-tried c).After-slice_known-in-Step-1) c.try_quick-tried.ensures
+pub loop-next-preserved-then-tried : goal.loop-next-preserved-then-tried
+loop-next-preserved-then-tried c =
+    went_on (step_turn (goal.at.loop-next-preserved-then-tried c).In-Step) (team_at (goal.at.loop-next-preserved-then-tried c).In-Step) refl (quick_list (goal.at.loop-next-preserved-then-tried c).In-Step) (quick_kept (goal.at.loop-next-preserved-then-tried c).In-Step) c.try_quick-tried.result c.try_quick-tried.new.book (book_whole (goal.at.loop-next-preserved-then-tried c).After-slice_known-in-Step-1) c.try_quick-tried.ensures
     c.if-tried.true _ _ _ c.advanced-after.ensures c.put_told-filled.ensures
 
 pub other_step-left-requires : goal.other_step-left-requires
@@ -211,12 +212,12 @@ offset_bounds-quick-slot-in-Step c = omega (arith, team_below (goal.at.offset_bo
 pub bounds-quick-slot-in-Step : goal.bounds-quick-slot-in-Step
 bounds-quick-slot-in-Step c = omega (arith, team_below (goal.at.bounds-quick-slot-in-Step c).In-Step)
 
-pub loop-stop-smaller-in-Step : goal.loop-stop-smaller-in-Step
-loop-stop-smaller-in-Step c = let inside = (step_inside (goal.at.loop-stop-smaller-in-Step c).In-Step).0.inside in omega (arith, inside)
+pub loop-next-smaller-in-Step : goal.loop-next-smaller-in-Step
+loop-next-smaller-in-Step c = let inside = (step_inside (goal.at.loop-next-smaller-in-Step c).In-Step).0.inside in omega (arith, inside)
 
-pub loop-stop-preserved-in-Step : goal.loop-stop-preserved-in-Step
-loop-stop-preserved-in-Step c =
-    stepped_on (step_turn (goal.at.loop-stop-preserved-in-Step c).In-Step) (team_at (goal.at.loop-stop-preserved-in-Step c).In-Step) refl (quick_list (goal.at.loop-stop-preserved-in-Step c).In-Step) (quick_kept (goal.at.loop-stop-preserved-in-Step c).In-Step) c.try_quick-tried.result c.try_quick-tried.new.book (book_whole (goal.at.loop-stop-preserved-in-Step c).After-slice_known-in-Step-1) c.try_quick-tried.ensures
+pub loop-next-preserved-in-Step : goal.loop-next-preserved-in-Step
+loop-next-preserved-in-Step c =
+    stepped_on (step_turn (goal.at.loop-next-preserved-in-Step c).In-Step) (team_at (goal.at.loop-next-preserved-in-Step c).In-Step) refl (quick_list (goal.at.loop-next-preserved-in-Step c).In-Step) (quick_kept (goal.at.loop-next-preserved-in-Step c).In-Step) c.try_quick-tried.result c.try_quick-tried.new.book (book_whole (goal.at.loop-next-preserved-in-Step c).After-slice_known-in-Step-1) c.try_quick-tried.ensures
     c.if-tried.false _ _ _ _ _ _ c.other_step-left.ensures c.quick_of.ensures
 
 pub overflow_add-frame : goal.overflow_add-frame
@@ -229,30 +230,30 @@ pub overflow_add-at-in-Other : goal.overflow_add-at-in-Other
 overflow_add-at-in-Other c = omega (arith, (other_inside (goal.at.overflow_add-at-in-Other c).In-Other).inside)
 
 pub slot_of-slot-requires : goal.slot_of-slot-requires
-slot_of-slot-requires c = slot_known (frame_at c.args.input.now c.loop-stop.at (size_at (goal.at.slot_of-slot-requires c).In-Other)) c.aim_of-aim.result c.aim_of-aim.ensures.1
+slot_of-slot-requires c = slot_known (frame_at c.args.input.now c.loop-next.at (size_at (goal.at.slot_of-slot-requires c).In-Other)) (aim_numbered c.aim_of-aim.result) c.aim_of-aim.ensures.1
 
 pub other_frame-left-requires : goal.other_frame-left-requires
 other_frame-left-requires c =
-    let turn = other_turn (goal.at.other_frame-left-requires c).In-Other c.aim_of-aim.result c.aim_of-aim.ensures in
-    (turn.goes.book, turn.aim_known, no_step (goal.at.other_frame-left-requires c).In-Other c.aim_of-aim.result c.aim_of-aim.ensures, turn.goes.accepted, record { inside = turn.goes.fits; room = turn.ahead.answerable })
+    let turn = other_turn (goal.at.other_frame-left-requires c).In-Other (aim_numbered c.aim_of-aim.result) c.aim_of-aim.ensures in
+    (turn.goes.book, turn.aim_known, no_step (goal.at.other_frame-left-requires c).In-Other (aim_numbered c.aim_of-aim.result) c.aim_of-aim.ensures, turn.goes.accepted, record { inside = turn.goes.fits; room = turn.ahead.answerable })
 
-pub loop-stop-smaller-then-left : goal.loop-stop-smaller-then-left
-loop-stop-smaller-then-left c = let ahead = other_inside (goal.at.loop-stop-smaller-then-left c).In-Other in omega (arith, ahead.inside, ahead.least)
+pub loop-next-smaller-then-left : goal.loop-next-smaller-then-left
+loop-next-smaller-then-left c = let ahead = other_inside (goal.at.loop-next-smaller-then-left c).In-Other in omega (arith, ahead.inside, ahead.least)
 
-pub loop-stop-preserved-then-left : goal.loop-stop-preserved-then-left
-loop-stop-preserved-then-left c =
+pub loop-next-preserved-then-left : goal.loop-next-preserved-then-left
+loop-next-preserved-then-left c =
     let slot = c.slot_of-slot in
     let frame = c.other_frame-left in
-    let loop = c.loop-stop in
-    opened_on (other_turn (goal.at.loop-stop-preserved-then-left c).In-Other c.aim_of-aim.result c.aim_of-aim.ensures) (no_step (goal.at.loop-stop-preserved-then-left c).In-Other c.aim_of-aim.result c.aim_of-aim.ensures) loop.quick loop.invariant.1 slot.result slot.ensures.0 frame.result _ _ frame.ensures
+    let loop = c.loop-next in
+    opened_on (other_turn (goal.at.loop-next-preserved-then-left c).In-Other (aim_numbered c.aim_of-aim.result) c.aim_of-aim.ensures) (no_step (goal.at.loop-next-preserved-then-left c).In-Other (aim_numbered c.aim_of-aim.result) c.aim_of-aim.ensures) loop.quick loop.invariant.1 slot.result slot.ensures.0 frame.result _ _ frame.ensures
     c.if-left.true slot.ensures.1 _ c.quick_of-then-left.ensures
 
-pub loop-stop-smaller : goal.loop-stop-smaller
-loop-stop-smaller c = let ahead = other_inside (goal.at.loop-stop-smaller c).In-Other in omega (arith, ahead.inside, ahead.least)
+pub loop-next-smaller : goal.loop-next-smaller
+loop-next-smaller c = let ahead = other_inside (goal.at.loop-next-smaller c).In-Other in omega (arith, ahead.inside, ahead.least)
 
-pub loop-stop-preserved : goal.loop-stop-preserved
-loop-stop-preserved c =
+pub loop-next-preserved : goal.loop-next-preserved
+loop-next-preserved c =
     let slot = c.slot_of-slot in
     let frame = c.other_frame-left in
-    let loop = c.loop-stop in
-    (unopened_on (other_turn (goal.at.loop-stop-preserved c).In-Other c.aim_of-aim.result c.aim_of-aim.ensures) (no_step (goal.at.loop-stop-preserved c).In-Other c.aim_of-aim.result c.aim_of-aim.ensures) loop.quick loop.invariant.1 slot.result slot.ensures.0 frame.result _ _ frame.ensures c.if-left.false, loop.invariant.1)
+    let loop = c.loop-next in
+    (unopened_on (other_turn (goal.at.loop-next-preserved c).In-Other (aim_numbered c.aim_of-aim.result) c.aim_of-aim.ensures) (no_step (goal.at.loop-next-preserved c).In-Other (aim_numbered c.aim_of-aim.result) c.aim_of-aim.ensures) loop.quick loop.invariant.1 slot.result slot.ensures.0 frame.result _ _ frame.ensures c.if-left.false, loop.invariant.1)

@@ -6,9 +6,9 @@ use Rattle.book.specs.Quickly.{QuickSlots}
 use Rattle.book.proofs.Turning.{Goes}
 use Rattle.book.proofs.answer_frames.Given as goal
 
-abbrev pub invariant-loop-stop : goal.invariant-loop-stop
-invariant-loop-stop l =
+abbrev pub invariant-loop-next : goal.invariant-loop-next
+invariant-loop-next l =
     Goes l.ranks l.input (length l.initial.out) (stream_from (length l.input) l.initial.book (table_of (table_with l.initial.slots l.initial.targets)) l.ranks l.input l.initial.out 0 0) l.known l.book l.out (table_with l.slots l.targets) l.at l.filled × QuickSlots l.known l.slots l.quick
 
-abbrev pub decreases-loop-stop : goal.decreases-loop-stop
-decreases-loop-stop l = length l.input - l.at
+abbrev pub decreases-loop-next : goal.decreases-loop-next
+decreases-loop-next l = length l.input - l.at

@@ -11,24 +11,20 @@ use Rattle.carrying.proofs.Carrying.{length_from, read_whole}
 use Rattle.carry.specs.Writing.{moved_word}
 use Rattle.carry.proofs.move_words.Goals as goal
 
-pub loop-word-init : goal.loop-word-init
-loop-word-init c = (omega arith, c.requires.1, λ i below. absurd (omega arith))
-
 pub loop-word-preserved : goal.loop-word-preserved
 loop-word-preserved c =
     let loop = c.loop-word in
     let old = c.args.old.now in
     let whole = words_from (moved_word old) 0 words_in_book in
-    let inside : loop.word < words_in_book = omega (arith, c.loop-word-test.true) in
+    let inside : loop.word < words_in_book = omega arith in
     let here = c.moved_word.ensures ∙ sym (read_whole (moved_word old) loop.word inside) in (
-      omega arith,
-      length-set loop.second loop.word c.moved_word.result ∙ loop.invariant.1,
-      λ i below. ap (λ (value : ℕ). get_or (set loop.second loop.word value) i 0) here ∙ same_more loop.word loop.second whole (omega (arith, loop.invariant.1)) loop.invariant.2 i below,
+      length-set loop.second loop.word _ ∙ loop.invariant.0,
+      λ i below. ap (λ (value : ℕ). get_or (set loop.second loop.word value) i 0) here ∙ same_more loop.word loop.second whole (omega (arith, loop.invariant.0)) loop.invariant.1 i below,
     )
 
 pub returns : goal.returns
 returns c =
     let loop = c.loop-word in
     let old = c.args.old.now in
-    ext_get_or 0 loop.second (words_from (moved_word old) 0 words_in_book) (loop.invariant.1 ∙ sym (length_from (moved_word old) 0 words_in_book))
-    (λ i below. loop.invariant.2 i (omega (arith, c.loop-word-test.false, loop.invariant.1)))
+    ext_get_or 0 loop.second (words_from (moved_word old) 0 words_in_book) (loop.invariant.0 ∙ sym (length_from (moved_word old) 0 words_in_book))
+    (λ i below. loop.invariant.1 i (omega (arith, loop.invariant.0)))

@@ -10,8 +10,8 @@ target_at-target-requires c =
     let args = c.args in
     target_asked args.targets.now args.slot args.ticket c.requires.steps_in.made c.requires.steps_in.team_known args.ticket.claimed (next_unclaimed args.book.now args.targets.now args.slot args.ticket args.out.now args.at c.requires)
 
-pub conditional_swap-report-requires : goal.conditional_swap-report-requires
-conditional_swap-report-requires c =
+pub conditional_swap-found-requires : goal.conditional_swap-found-requires
+conditional_swap-found-requires c =
     let target = c.target_at-target in
     let args = c.args in
     target_inside Claiming args.book.now args.targets.now args.slot args.ticket args.out.now args.at c.requires args.ticket.claimed (next_unclaimed args.book.now args.targets.now args.slot args.ticket args.out.now args.at c.requires) target.result target.ensures
@@ -22,12 +22,15 @@ claim-after-requires c =
 
 pub returns-then-found-target : goal.returns-then-found-target
 returns-then-found-target c =
-    let same = c.if-found-target.true in
-    let mark = c.mark-mark in
-    let target = c.target_at-target in
     let args = c.args in
-    edit_claims args.book.now args.targets.now args.slot args.ticket args.out.now args.at c.requires target.result mark.result c.conditional_swap-report.result.found c.conditional_swap-report.new.book c.claim-after.result c.put_claimed-filled.result c.put_claimed-filled.new.out
-    target.ensures mark.ensures c.conditional_swap-report.ensures.found c.conditional_swap-report.ensures.words same c.claim-after.ensures.slot c.put_claimed-filled.ensures
+    let swap = c.conditional_swap-found in
+    let target = c.target_at-target in
+    let mark = c.mark-mark in
+    let after = c.claim-after in
+    let left = c.leave in
+    rw left.ensures.ticket
+    (edit_claims args.book.now args.targets.now args.slot args.ticket args.out.now args.at c.requires target.result mark.result swap.result.found swap.new.book after.result left.result.filled left.new.out
+    target.ensures mark.ensures swap.ensures.found swap.ensures.words c.if-found-target.true after.ensures.slot left.ensures.answer)
 
 pub missed-requires : goal.missed-requires
 missed-requires c =
@@ -40,5 +43,5 @@ returns c =
     let mark = c.mark-mark in
     let target = c.target_at-target in
     let args = c.args in
-    edit_misses args.book.now args.targets.now args.slot args.ticket args.out.now args.at c.requires target.result mark.result c.conditional_swap-report.result.found c.conditional_swap-report.new.book c.missed.result.ticket c.missed.result.filled c.missed.new.out
-    target.ensures mark.ensures c.conditional_swap-report.ensures.found c.conditional_swap-report.ensures.words other c.missed.ensures
+    edit_misses args.book.now args.targets.now args.slot args.ticket args.out.now args.at c.requires target.result mark.result c.conditional_swap-found.result.found c.conditional_swap-found.new.book c.missed.result.ticket c.missed.result.filled c.missed.new.out
+    target.ensures mark.ensures c.conditional_swap-found.ensures.found c.conditional_swap-found.ensures.words other c.missed.ensures

@@ -1,22 +1,17 @@
 -- `claiming::missed` meets its contract: the next target waits for its word, or tells that it differed.
 use mathlib.Core.Path.{sym, subst, ◌∙◌}
-use native.Mathlib.Omega.{arith}
 use Rattle.words.specs.Words.{holder_of}
 use Rattle.tickets.specs.declared.StepAnswer.TheVariants.{Waiting}
 use Rattle.replies.specs.Leaving.{Answered}
-use Rattle.replies.proofs.Standing.{few_targets, target_fits_there}
+use Rattle.replies.proofs.Standing.{target_asked}
 use Rattle.claiming.specs.Missing.{differed_answer}
 use Rattle.claiming.proofs.Missing.{next_unclaimed, miss_waits, miss_differs}
 use Rattle.claiming.proofs.missed.Goals as goal
 
 pub target_at-target-requires : goal.target_at-target-requires
 target_at-target-requires c =
-    let numbers = c.args.targets.now in
-    let slot = c.args.slot in
-    let ticket = c.args.ticket in
-    let below = next_unclaimed numbers slot ticket c.args.out.now c.args.at c.requires in
-    let few = few_targets numbers slot ticket c.requires.made in
-    (c.requires.team_known, omega (arith, below, few), (target_fits_there numbers slot ticket c.requires.made ticket.claimed below).inside)
+    let args = c.args in
+    target_asked args.targets.now args.slot args.ticket c.requires.made c.requires.team_known args.ticket.claimed (next_unclaimed args.targets.now args.slot args.ticket args.out.now args.at c.requires)
 
 pub returns-then-is_held : goal.returns-then-is_held
 returns-then-is_held c =

@@ -1,4 +1,5 @@
 -- `decoder::read_move` meets its contract: the first field out of range is some field out of range, and then the repeats are tested.
+use Rattle.std.specs.Prelude.{Some, None}
 use borrow.Author.Tests.{eq-eqb, ne_eqb}
 use mathlib.Core.Path.{◌≡◌, sym, ◌∙◌}
 use mathlib.Core.Bool.{true, true≢false}
@@ -7,7 +8,7 @@ use Rattle.edits.specs.Ranges.{edit_in_range}
 use mathlib.Core.Logic.{⊎_elim}
 use Rattle.frames.specs.Requests.{move_in, taken_at}
 use Rattle.frames.proofs.Ranges.{first_of, next_of, none_of}
-use Rattle.decoder.proofs.Answered.{field_out, taken_field_out}
+use Rattle.decoder.proofs.Answered.{field_out}
 use Rattle.decoder.proofs.Decoded.{refused_10, refused_11, read_as_lem, move_fits, move_decoded, move_repeats}
 use Rattle.decoder.proofs.read_move.Goals as goal
 use Rattle.decoder.proofs.read_move.Goals.{After-stations_at-stations}
@@ -15,25 +16,25 @@ use Rattle.decoder.proofs.read_move.Goals.{After-stations_at-stations}
 -- The edit that is read where each field is in range.
 abbrev read_edit : After-stations_at-stations → Edit
 read_edit c = Edit.Move (record {
-  passage = c.in-InRange.passage;
-  into = c.in-InRange-passage_field.into;
-  newer = c.in-InRange-taken_field.taken.newer;
-  leg = c.in-InRange-taken_field.taken.leg;
-  older = c.in-InRange-taken_field.taken.older;
-  count = c.in-InRange-taken_field.taken.count;
-  into_newest = c.in-InRange-field_up_to.newest;
-  into_count = c.in-InRange-field_up_to-2.count;
+  passage = c.in-Some.passage;
+  into = c.in-Some-passage_field.into;
+  newer = c.in-Some-taken_field.taken.newer;
+  leg = c.in-Some-taken_field.taken.leg;
+  older = c.in-Some-taken_field.taken.older;
+  count = c.in-Some-taken_field.taken.count;
+  into_newest = c.in-Some-field_up_to.newest;
+  into_count = c.in-Some-field_up_to-2.count;
   stations = c.stations_at-stations.result;
 })
 
 all_in_range : (c : After-stations_at-stations) → (read_edit c ≡ Edit.Move (move_in c.args.part.now)) × (edit_in_range (Edit.Move (move_in c.args.part.now)) ≡ true)
 all_in_range c =
     move_decoded c.args.part.now _ _ _ _ _ _
-    (sym c.passage_field.ensures ∙ c.in-InRange.is)
-    (sym c.passage_field-2.ensures ∙ c.in-InRange-passage_field.is)
-    (sym c.taken_field.ensures ∙ c.in-InRange-taken_field.is)
-    (sym c.field_up_to.ensures ∙ c.in-InRange-field_up_to.is)
-    (sym c.field_up_to-2.ensures ∙ c.in-InRange-field_up_to-2.is)
+    (sym c.passage_field.ensures ∙ c.in-Some.is)
+    (sym c.passage_field-2.ensures ∙ c.in-Some-passage_field.is)
+    (sym c.taken_field.ensures ∙ c.in-Some-taken_field.is)
+    (sym c.field_up_to.ensures ∙ c.in-Some-field_up_to.is)
+    (sym c.field_up_to-2.ensures ∙ c.in-Some-field_up_to-2.is)
     c.stations_at-stations.ensures
 
 pub returns-in_default : goal.returns-in_default
@@ -52,7 +53,7 @@ pub returns-in_default-taken_field : goal.returns-in_default-taken_field
 unfolding move_in
 returns-in_default-taken_field c = let part = c.args.part.now in
     refused_10 (Edit.Move (move_in part))
-    (λ h. true≢false (sym (move_fits (move_in part) h).taken ∙ taken_field_out (taken_at part 6) (sym c.taken_field.ensures ∙ c.in_default-taken_field.is)))
+    (λ h. true≢false (sym (move_fits (move_in part) h).taken ∙ field_out _ (taken_at part 6) (sym c.taken_field.ensures ∙ c.in_default-taken_field.is)))
 
 pub returns-in_default-field_up_to : goal.returns-in_default-field_up_to
 unfolding move_in

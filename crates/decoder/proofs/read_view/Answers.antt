@@ -5,17 +5,15 @@ use Rattle.decoder.proofs.read_view.Goals as goal
 
 pub returns-then-n-count : goal.returns-then-n-count
 returns-then-n-count c =
-    c.refused_view.ensures ∙ miscounted c.args.part.now c.read16-n.ensures.0 c.if-n-count.true
+    miscounted c.args.part.now c.read16-n.ensures.0 c.if-n-count.true
 
 pub returns-then-not-all_in_book : goal.returns-then-not-all_in_book
 returns-then-not-all_in_book c =
-    c.refused_view-then-not-all_in_book.ensures
-    ∙ outside c.args.part.now c.read16-n.ensures.0 c.if-n-count.false c.named_words-words.ensures (sym c.all_in_book.ensures ∙ c.if-not-all_in_book.true)
+    outside c.args.part.now c.read16-n.ensures.0 c.if-n-count.false c.named_words-words.ensures (sym c.all_in_book.ensures ∙ c.if-not-all_in_book.true)
 
 pub returns-then-not-distinct : goal.returns-then-not-distinct
 returns-then-not-distinct c =
-    c.refused_view-then-not-distinct.ensures
-    ∙ repeated c.args.part.now c.read16-n.ensures.0 c.if-n-count.false c.named_words-words.ensures
+    repeated c.args.part.now c.read16-n.ensures.0 c.if-n-count.false c.named_words-words.ensures
     (sym c.all_in_book.ensures ∙ c.if-not-all_in_book.false) (sym c.distinct.ensures ∙ c.if-not-distinct.true)
 
 pub returns : goal.returns

@@ -1,22 +1,19 @@
 -- `dispatch::aim_of` meets its contract: the header's refusal, or where its kind goes.
 use mathlib.Core.Path.{sym, ap, subst, ◌∙◌}
+use Rattle.std.proofs.lemmas.Result.{err_from_is_err_and}
 use Rattle.frames.specs.Fields.{WholeIfKnown}
 use Rattle.calls.specs.Way.{aim_by, aim_of}
 use Rattle.dispatch.proofs.aim_of.Goals as goal
 
 pub aim_by_kind-requires : goal.aim_by_kind-requires
-aim_by_kind-requires c = subst (WholeIfKnown c.args.frame.now) c.in-Kind.is c.read_header-header.ensures.1
+aim_by_kind-requires c = c.in_ok-kind.ensures.1
 
-pub returns-in-Refused : goal.returns-in-Refused
+pub returns-in_err-kind : goal.returns-in_err-kind
 unfolding aim_of
-returns-in-Refused c =
-    let frame = c.args.frame.now in
-    (ap (aim_by frame) (sym (sym c.read_header-header.ensures.0 ∙ c.in-Refused.is)), tt)
+returns-in_err-kind c =
+    let p = err_from_is_err_and c.from_residual.result c.from_residual.ensures.1 in
+    rw (p.1, p.2) (ap (aim_by c.args.frame.now) c.in_err-kind.ensures.0, tt)
 
-pub returns-in-Kind : goal.returns-in-Kind
+pub returns : goal.returns
 unfolding aim_of
-returns-in-Kind c =
-    let frame = c.args.frame.now in (
-      c.aim_by_kind.ensures.0 ∙ ap (aim_by frame) (sym (sym c.read_header-header.ensures.0 ∙ c.in-Kind.is)),
-      c.aim_by_kind.ensures.1,
-    )
+returns c = (c.aim_by_kind.ensures.0 ∙ ap (aim_by c.args.frame.now) c.in_ok-kind.ensures.0, c.aim_by_kind.ensures.1)

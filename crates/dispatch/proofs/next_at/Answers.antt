@@ -1,10 +1,12 @@
 -- `dispatch::next_at` meets its contract: a step told by its first bytes, or the next frame, each where there is room.
+use Rattle.std.specs.Prelude.{Ok}
 use native.Mathlib.Omega.{arith}
 use Prim.Native.Nat.{ℕ, ◌+◌, ◌<◌}
 use mathlib.Core.Path.{◌≡◌, sym, subst, ◌∙◌}
 use lib.ListN.{get_or}
 use Rattle.frames.specs.Numbers.{Bytes, number16}
 use Rattle.calls.specs.Stream.{NextInside}
+use Rattle.std.proofs.lemmas.Result.{err_from_is_err_and}
 use Rattle.dispatch.specs.Ahead.{ahead_of, AheadInside}
 use Rattle.dispatch.specs.declared.Ahead.TheVariants as Ahead
 use Rattle.dispatch.proofs.Steps.{step_there_lem, step_found, step_ahead, full_ahead, end_ahead, other_ahead}
@@ -30,23 +32,18 @@ pub returns-then-is_step_at : goal.returns-then-is_step_at
 returns-then-is_step_at c =
     let input = c.args.input.now in
     let there = step_there_lem input c.args.at (low input c.args.at (λ (k : ℕ). omega (arith, c.shared_slice_known-1.given k))) (sym c.is_step_at.ensures ∙ c.if-is_step_at.true) in
-    subst (λ (t : ℕ). (Ahead.Step t ≡ ahead_of input c.args.at c.args.room) × AheadInside input c.args.at c.args.room (Ahead.Step t)) (sym c.read16.ensures.0)
+    subst (λ (t : ℕ). (Ok (Ahead.Step t) ≡ ahead_of input c.args.at c.args.room) × AheadInside input c.args.at c.args.room (Ok (Ahead.Step t))) (sym c.read16.ensures.0)
     (step_ahead input c.args.at there c.args.room c.if-room-lt-LONGEST.false)
 
-pub returns-in-End : goal.returns-in-End
-returns-in-End c =
-    let found = sym c.next_frame-next.ensures.0 ∙ c.in-End.is in
-    (end_ahead c.args.input.now c.args.at c.args.room _ found, tt)
+pub returns-in_err-size : goal.returns-in_err-size
+returns-in_err-size c =
+    let p = err_from_is_err_and c.from_residual.result c.from_residual.ensures.1 in
+    rw (p.1, p.2) (end_ahead c.args.input.now c.args.at c.args.room _ (sym c.in_err-size.ensures.0), tt)
 
 pub returns-then-room-lt-LONGEST-2 : goal.returns-then-room-lt-LONGEST-2
-returns-then-room-lt-LONGEST-2 c =
-    let found = sym c.next_frame-next.ensures.0 ∙ c.in-Frame.is in
-    (full_ahead c.args.input.now c.args.at c.args.room _ found c.if-room-lt-LONGEST-2.true, tt)
+returns-then-room-lt-LONGEST-2 c = (full_ahead c.args.input.now c.args.at c.args.room _ (sym c.in_ok-size.ensures.0) c.if-room-lt-LONGEST-2.true, tt)
 
-pub returns-else-room-lt-LONGEST-2 : goal.returns-else-room-lt-LONGEST-2
-returns-else-room-lt-LONGEST-2 c =
-    let input = c.args.input.now in
-    let next = c.next_frame-next.ensures in
-    let given = c.in-Frame.is in
-    let inside = subst (NextInside input c.args.at) given next.1 in
-    other_ahead input c.args.at c.args.room _ (sym c.is_step_at.ensures ∙ c.if-is_step_at.false) (sym next.0 ∙ given) inside.0 inside.1 c.if-room-lt-LONGEST-2.false
+pub returns : goal.returns
+returns c =
+    let next = c.in_ok-size.ensures in
+    other_ahead c.args.input.now c.args.at c.args.room _ (sym c.is_step_at.ensures ∙ c.if-is_step_at.false) (sym next.0) next.1.0 next.1.1 c.if-room-lt-LONGEST-2.false

@@ -1,9 +1,9 @@
 -- `dispatch::next_frame` meets its contract: the three tests of the definition, in its order.
+use Rattle.std.specs.Prelude.{Ok}
 use native.Mathlib.Omega.{arith}
 use mathlib.Core.Path.{ap, subst, ◌∙◌}
 use Prim.Native.Nat.{ℕ, ◌+◌, ◌-◌, ◌<◌, ◌≤◌}
 use lib.ListN.{length}
-use Rattle.calls.specs.declared.Next.TheVariants.{Frame}
 use Rattle.calls.specs.Survey.{longest_field}
 use Rattle.calls.proofs.Streaming.{next_short, next_bad, next_torn, next_whole}
 use Rattle.dispatch.proofs.next_frame.Goals as goal
@@ -25,7 +25,7 @@ pub returns : goal.returns
 returns c =
     let read = c.read16-length.ensures.0 in
     let inside = c.if-rest-size.false in (
-      ap (λ (n : ℕ). Frame (2 + n)) read
+      ap (λ (n : ℕ). Ok (2 + n)) read
           ∙ next_whole c.args.input.now c.args.at c.if-rest-lt-FIELD.false (subst (λ (n : ℕ). n ≤ longest_field) read c.if-length.false) (subst (λ (n : ℕ). 2 + n ≤ length c.args.input.now - c.args.at) read inside),
       (omega arith, omega (arith, c.requires, inside)),
     )

@@ -1,31 +1,31 @@
 -- `handlers::open_edit` meets its contract: the ticket that the edit opens, or the refusal of its fields.
 use mathlib.Core.Path.{refl, sym, ap, ◌∙◌}
 use Rattle.tickets.specs.Table.{gathered}
+use Rattle.frames.specs.Kinds.{kind_number}
+use Rattle.frames.specs.Refusals.{numbered}
 use Rattle.calls.specs.Way.{open_settled}
 use Rattle.handlers.proofs.Cases.{read_allowed, left_opened, left_unopened, edit_opened, edit_refused}
 use Rattle.handlers.proofs.open_edit.Goals as goal
 
 pub open-n-requires : goal.open-n-requires
 open-n-requires c =
-    (c.requires.0, read_allowed c.args.kind c.args.part.now _ (sym c.read_edit-read.ensures ∙ c.in-Is.is), c.requires.2)
+    (c.requires.0, read_allowed (kind_number c.args.kind) c.args.part.now _ (sym c.read_edit.ensures ∙ ap numbered c.in-Ok.is), c.requires.2)
 
-pub returns-in-Is : goal.returns-in-Is
-returns-in-Is c =
-    let read = c.read_edit-read in
+pub returns-in-Ok : goal.returns-in-Ok
+returns-in-Ok c =
     let opened = c.open-n in
-    let put = c.put_standing-filled in
-    let is = sym c.in-Is.is ∙ read.ensures in
+    let put = c.put-filled in
+    let is = sym (ap numbered c.in-Ok.is) ∙ c.read_edit.ensures in
     λ ticket.
     left_opened _ c.args.targets.now _ c.args.slot ticket c.edit.result _ _ _ _ _ _ refl
     (edit_opened (gathered c.args.targets.now c.args.slot ticket) _ c.args.ranks.now _ _ (ap (gathered _ c.args.slot) c.edit.ensures ∙ opened.ensures.opened.1) opened.ensures.opened.0
     ∙ ap (open_settled (gathered c.args.targets.now c.args.slot ticket) c.args.ranks.now) is)
     opened.ensures.others put.ensures
 
-pub returns-in-Refused : goal.returns-in-Refused
-returns-in-Refused c =
-    let read = c.read_edit-read in
+pub returns-in-Err : goal.returns-in-Err
+returns-in-Err c =
     let put = c.put_refused-filled in
-    let is = sym c.in-Refused.is ∙ read.ensures in
+    let is = sym (ap numbered c.in-Err.is) ∙ c.read_edit.ensures in
     λ ticket.
     left_unopened _ c.args.targets.now c.args.slot ticket c.unopened.result _ _ _ _ _ c.unopened.ensures
     (edit_refused (gathered c.args.targets.now c.args.slot ticket) c.args.ranks.now _ ∙ ap (open_settled (gathered c.args.targets.now c.args.slot ticket) c.args.ranks.now) is)

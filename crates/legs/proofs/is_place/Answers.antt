@@ -4,14 +4,13 @@ use mathlib.Core.Path.{sym}
 use Rattle.legs.proofs.Figures.{no_place, place_differs}
 use Rattle.legs.proofs.is_place.Goals as goal
 
-pub returns-then-number-lt1 : goal.returns-then-number-lt1
-returns-then-number-lt1 c = sym (no_place c.args.place (λ l. omega arith))
-
-pub returns-then-number : goal.returns-then-number
-returns-then-number c = sym (no_place c.args.place (λ l. omega arith))
+pub returns-then-not-contains : goal.returns-then-not-contains
+returns-then-not-contains c = sym (no_place c.args.place (λ l. grind (arith, l.least, l.most)))
 
 pub returns-then-to-gt-LAST : goal.returns-then-to-gt-LAST
-returns-then-to-gt-LAST c = sym (no_place c.args.place (λ l. omega arith))
+returns-then-to-gt-LAST c = sym (no_place c.args.place (λ l. omega (arith, l.to_fits)))
 
 pub returns : goal.returns
-returns c = place_differs c.args.place (omega arith) (omega arith) (omega arith)
+returns c =
+    rw (c.from_in-from.ensures, c.to_in-to.ensures)
+    (place_differs c.args.place (grind arith) (grind arith) (omega arith))

@@ -19,9 +19,6 @@ clino_offset-offset-requires c =
     let fits = (measure_fits_lem c.args.measure c.requires).clino_fits in
     rw (kept16 c.args.measure.clino fits) fits
 
-pub compass_taken-compass-requires : goal.compass_taken-compass-requires
-compass_taken-compass-requires c = c.clino_offset-offset.ensures.1
-
 pub returns : goal.returns
 returns c =
     let measure = c.args.measure in

@@ -1,48 +1,42 @@
 -- `legs::read_leg` meets its contract: the figures are read where both words are tested to be a leg's.
 use native.Mathlib.Omega.{arith}
 use mathlib.Core.Path.{◌≡◌, sym, ap, ◌∙◌}
-use mathlib.Core.Bool.{true}
-use Prim.Native.Nat.{◌/◌, ◌%◌}
+use Prim.Native.Nat.{◌-◌, ◌/◌}
 use mir.Syntax.{w16}
 use mir.Val.{to_z, of_z}
-use Rattle.legs.specs.declared.Reading.TheVariants.{Is}
-use Rattle.legs.specs.Legs.{compass_unit, clino_unit}
-use Rattle.legs.specs.Reading.{passage_in, stations_in, clino_at, is_place, is_measure}
+use Rattle.std.specs.Prelude.{Some}
+use Rattle.legs.specs.Legs.{clino_unit}
+use Rattle.legs.specs.Reading.{clino_at}
 use Rattle.legs.proofs.Clino.{kept16, clino_in_range_lem}
 use Rattle.legs.proofs.Figures.{in_place, in_measure}
 use Rattle.legs.proofs.RoundTrip.{reading_no_place, reading_no_measure, reading_is}
 use Rattle.legs.proofs.read_leg.Goals as goal
+use Rattle.legs.proofs.read_leg.Goals.{then-not-is_place-via-then-not-is_place, then-not-is_place-via-else-not-is_place+then-not-is_measure}
 
 pub returns-then-not-is_place : goal.returns-then-not-is_place
-returns-then-not-is_place c = reading_no_place _ _ (sym c.is_place.ensures ∙ c.if-not-is_place.true)
-
-pub returns-then-not-is_measure : goal.returns-then-not-is_measure
-returns-then-not-is_measure c =
-    reading_no_measure _ _
-    (sym c.is_place.ensures ∙ c.if-not-is_place.false)
-    (sym c.is_measure.ensures ∙ c.if-not-is_measure.true)
-
-pub overflow_cast-stations-2 : goal.overflow_cast-stations-2
-overflow_cast-stations-2 c =
-    let place = in_place _ (sym c.is_place.ensures ∙ c.if-not-is_place.false) in
-    omega arith
-
-pub clino_at-requires : goal.clino_at-requires
-clino_at-requires c = (in_measure _ (sym c.is_measure.ensures ∙ c.if-not-is_measure.false)).offset_fits
+returns-then-not-is_place c = elim c.then-not-is_place.branch [
+  | then-not-is_place-via-then-not-is_place w ↦ reading_no_place _ _ (sym w.if-not-is_place.ensures)
+  | then-not-is_place-via-else-not-is_place+then-not-is_measure w ↦ reading_no_measure _ _ (sym w.if-not-is_place.ensures) (sym w.if-not-is_measure.ensures)
+]
 
 pub overflow_sub-result : goal.overflow_sub-result
-overflow_sub-result c = (in_place _ (sym c.is_place.ensures ∙ c.if-not-is_place.false)).least
+overflow_sub-result c = omega (arith, (in_place _ (sym c.if-not-is_place.ensures)).least)
+
+pub overflow_cast-result-3 : goal.overflow_cast-result-3
+overflow_cast-result-3 c = let to_fits = (in_place _ (sym c.if-not-is_place.ensures)).to_fits in omega (arith, to_fits)
+
+pub clino_at-requires : goal.clino_at-requires
+clino_at-requires c = omega (arith, (in_measure _ (sym c.if-not-is_measure.ensures)).offset_fits)
 
 pub returns : goal.returns
 returns c =
     let args = c.args in
-    let place_is : is_place args.place ≡ true = sym c.is_place.ensures ∙ c.if-not-is_place.false in
-    let measure_is : is_measure args.measure ≡ true = sym c.is_measure.ensures ∙ c.if-not-is_measure.false in
+    let measure_is = sym c.if-not-is_measure.ensures in
     let clino : to_z w16 (of_z w16 c.clino_at.result) ≡ clino_at (args.measure / clino_unit) =
-    ap (λ z. to_z w16 (of_z w16 z)) c.clino_at.ensures ∙ kept16 _ (clino_in_range_lem _ (in_measure _ measure_is).offset_fits) in
-    (λ i. Is (record {
-      passage = passage_in args.place;
-      stations = stations_in args.place;
-      measure = record { distance = args.measure % compass_unit; compass = args.measure % clino_unit / compass_unit; clino = clino i };
+    ap (λ z. to_z w16 (of_z w16 z)) (c.clino_at.ensures ∙ ap clino_at c.offset_in.ensures) ∙ kept16 _ (clino_in_range_lem _ (in_measure _ measure_is).offset_fits) in
+    (λ i. Some (record {
+      passage = c.passage_number_in.ensures i - 1;
+      stations = record { from = c.from_in.ensures i; to = c.to_in.ensures i };
+      measure = record { distance = c.distance_in.ensures i; compass = c.compass_in.ensures i; clino = clino i };
     }))
-    ∙ reading_is args.place args.measure place_is measure_is
+    ∙ reading_is args.place args.measure (sym c.if-not-is_place.ensures) measure_is

@@ -1,4 +1,5 @@
-use Prim.Native.Nat.{◌-◌, ◌≤◌}
+use mathlib.Core.Path.{◌≡◌}
+use Prim.Native.Nat.{◌-◌}
 use Rattle.words.specs.declared.LegLayout.TheVariants.{FourWords}
 use Rattle.words.specs.Words.{passage_count}
 use Rattle.soundness.specs.InWords.{list_in, lists_from, plain_in}
@@ -8,8 +9,5 @@ use Rattle.listing.proofs.write_legs.Given as goal
 
 abbrev pub invariant-loop-passage : goal.invariant-loop-passage
 invariant-loop-passage l =
-    (l.passage ≤ passage_count)
-    × Continues l.out l.next (listed_words (legs_at l.station (lists_from (list_in FourWords l.book) l.passage (passage_count - l.passage)))) l.initial.out l.at (listed_words (legs_at l.station (plain_in FourWords l.book)))
-
-abbrev pub decreases-loop-passage : goal.decreases-loop-passage
-decreases-loop-passage l = passage_count - l.passage
+    Continues l.out.words.now l.out.at (listed_words (legs_at l.station (lists_from (list_in FourWords l.book.words.now) l.passage (passage_count - l.passage)))) l.initial.out.words.now l.initial.out.at (listed_words (legs_at l.station (plain_in FourWords l.book.words.now)))
+    × (l.out.words.ghost_name ≡ l.initial.out.words.ghost_name)

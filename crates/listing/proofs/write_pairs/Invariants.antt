@@ -1,6 +1,5 @@
-use Prim.Native.Nat.{◌-◌, ◌≤◌}
+use mathlib.Core.Path.{◌≡◌}
 use lib.ListN.{drop}
-use Rattle.words.specs.Words.{passage_count}
 use Rattle.meeting.specs.Meeting.{pairs_of, pair_words}
 use Rattle.stations.specs.Counting.{present_from}
 use Rattle.listing.proofs.Continuing.{Continues}
@@ -8,7 +7,5 @@ use Rattle.listing.proofs.write_pairs.Given as goal
 
 abbrev pub invariant-loop-lower : goal.invariant-loop-lower
 invariant-loop-lower l =
-    (l.lower ≤ passage_count) × Continues l.out l.next (pair_words (pairs_of (present_from l.lower (drop l.lower l.counts)))) l.initial.out l.at (pair_words (pairs_of (present_from 0 l.counts)))
-
-abbrev pub decreases-loop-lower : goal.decreases-loop-lower
-decreases-loop-lower l = passage_count - l.lower
+    Continues l.out.words.now l.out.at (pair_words (pairs_of (present_from l.lower (drop l.lower l.counts)))) l.initial.out.words.now l.initial.out.at (pair_words (pairs_of (present_from 0 l.counts)))
+    × (l.out.words.ghost_name ≡ l.initial.out.words.ghost_name)

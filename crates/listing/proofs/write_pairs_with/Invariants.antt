@@ -1,7 +1,7 @@
-use Prim.Native.Nat.{◌+◌, ◌-◌, ◌≤◌}
+use mathlib.Core.Path.{◌≡◌}
+use Prim.Native.Nat.{◌+◌}
 use mathlib.Core.List.{map}
 use lib.ListN.{drop}
-use Rattle.words.specs.Words.{passage_count}
 use Rattle.meeting.specs.Meeting.{pair, pair_words}
 use Rattle.stations.specs.Counting.{present_from}
 use Rattle.listing.proofs.Continuing.{Continues}
@@ -9,8 +9,5 @@ use Rattle.listing.proofs.write_pairs_with.Given as goal
 
 abbrev pub invariant-loop-higher : goal.invariant-loop-higher
 invariant-loop-higher l =
-    (l.higher ≤ passage_count)
-    × Continues l.out l.next (pair_words (map (pair l.lower) (present_from l.higher (drop l.higher l.counts)))) l.initial.out l.at (pair_words (map (pair l.lower) (present_from (l.lower + 1) (drop (l.lower + 1) l.counts))))
-
-abbrev pub decreases-loop-higher : goal.decreases-loop-higher
-decreases-loop-higher l = passage_count - l.higher
+    Continues l.out.words.now l.out.at (pair_words (map (pair l.lower) (present_from l.higher (drop l.higher l.counts)))) l.initial.out.words.now l.initial.out.at (pair_words (map (pair l.lower) (present_from (l.lower + 1) (drop (l.lower + 1) l.counts))))
+    × (l.out.words.ghost_name ≡ l.initial.out.words.ghost_name)

@@ -1,15 +1,12 @@
+use mathlib.Core.Path.{◌≡◌}
 use Rattle.words.specs.declared.LegLayout.TheVariants.{FourWords}
-use Rattle.plain.proofs.OneList.{Every}
-use Rattle.plain.proofs.Slots.{InRange}
-use Rattle.soundness.specs.InWords.{legs_along, list_in}
+use Rattle.soundness.specs.InWords.{list_in}
 use Rattle.meeting.specs.Meeting.{those_meeting, listed_words}
+use Rattle.stations.specs.Chains.{legs_left}
 use Rattle.listing.proofs.Continuing.{Continues}
 use Rattle.listing.proofs.write_passage.Given as goal
 
-abbrev pub invariant-loop-left : goal.invariant-loop-left
-invariant-loop-left l =
-    Continues l.out l.next (listed_words (those_meeting l.station (legs_along FourWords l.book l.left l.leg))) l.initial.out l.at (listed_words (those_meeting l.station (list_in FourWords l.book l.passage)))
-    × Every InRange (legs_along FourWords l.book l.left l.leg)
-
-abbrev pub decreases-loop-left : goal.decreases-loop-left
-decreases-loop-left l = l.left
+abbrev pub invariant-loop-leg : goal.invariant-loop-leg
+invariant-loop-leg l =
+    Continues l.out.words.now l.out.at (listed_words (those_meeting l.station (legs_left l.leg-iterator))) l.initial.out.words.now l.initial.out.at (listed_words (those_meeting l.station (list_in FourWords l.book.words.now l.passage)))
+    × (l.out.words.ghost_name ≡ l.initial.out.words.ghost_name)

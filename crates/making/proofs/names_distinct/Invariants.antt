@@ -8,6 +8,3 @@ use Rattle.making.proofs.names_distinct.Given as goal
 
 abbrev pub invariant-loop-k : goal.invariant-loop-k
 invariant-loop-k l = distinct (named_in (targets_of l.targets l.slot l.n)) ≡ distinct (names_from l.k (l.n - l.k) (targets_of l.targets l.slot l.n))
-
-abbrev pub decreases-loop-k : goal.decreases-loop-k
-decreases-loop-k l = l.n - l.k

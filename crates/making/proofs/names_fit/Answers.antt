@@ -6,13 +6,6 @@ use Rattle.tickets.specs.Tickets.{words_in, named_in, names_well_made}
 use Rattle.tickets.specs.Table.{targets_of}
 use Rattle.making.proofs.names_fit.Goals as goal
 
-pub returns-then-not-view : goal.returns-then-not-view
-returns-then-not-view c =
-    let args = c.args in
-    let ticket = targets_of args.targets.now args.slot args.n in
-    let edit : args.view ≡ false = c.if-not-view.true in
-    sym (ap (λ b. cond b (names_well_made (named_in ticket) (words_in ticket)) true) edit)
-
 pub returns-then-not-names_distinct : goal.returns-then-not-names_distinct
 returns-then-not-names_distinct c =
     let args = c.args in

@@ -10,6 +10,3 @@ abbrev pub invariant-loop-k : goal.invariant-loop-k
 invariant-loop-k l =
     let ticket = targets_of l.targets l.slot l.n in
     all_occur (named_in ticket) (words_in ticket) ≡ all_occur (names_from l.k (l.n - l.k) ticket) (words_in ticket)
-
-abbrev pub decreases-loop-k : goal.decreases-loop-k
-decreases-loop-k l = l.n - l.k

@@ -1,21 +1,12 @@
 -- `making::targets_well_made` meets its contract: the test of all targets is that of those not yet passed.
-use native.Mathlib.Omega.{arith}
 use mathlib.Core.Path.{◌≡◌, sym, ap, ◌∙◌}
 use mathlib.Core.Bool.{true, false, cond}
 use Prim.Native.Nat.{◌+◌, ◌-◌}
 use Rattle.tickets.specs.Tickets.{target_at, targets_from, target_well_made, all_well_made}
 use Rattle.tickets.specs.Table.{targets_of}
-use Rattle.tickets.proofs.TargetLists.{all_targets}
 use Rattle.tickets.proofs.Made.{peel, none_left}
 use Rattle.making.proofs.Reading.{read_target}
 use Rattle.making.proofs.targets_well_made.Goals as goal
-
-pub loop-k-init : goal.loop-k-init
-loop-k-init c = ap all_well_made (all_targets (targets_of c.args.targets.now c.args.slot c.args.n))
-
-pub target_well_made-requires : goal.target_well_made-requires
-target_well_made-requires c =
-    (c.requires.0, omega (arith, c.loop-k-test.true, c.requires.1))
 
 pub returns-then-not-target_well_made : goal.returns-then-not-target_well_made
 returns-then-not-target_well_made c =
@@ -28,13 +19,6 @@ returns-then-not-target_well_made c =
     (loop.invariant
     ∙ peel ticket args.n loop.k c.loop-k-test.true
     ∙ ap (λ b. cond b (all_well_made (targets_from (loop.k + 1) (args.n - (loop.k + 1)) ticket)) false) bad)
-
-pub overflow_add-k : goal.overflow_add-k
-overflow_add-k c =
-    omega (arith, c.loop-k-test.true, c.requires.1)
-
-pub loop-k-smaller : goal.loop-k-smaller
-loop-k-smaller c = omega (arith, c.loop-k-test.true)
 
 pub loop-k-preserved : goal.loop-k-preserved
 loop-k-preserved c =

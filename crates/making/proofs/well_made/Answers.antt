@@ -1,12 +1,10 @@
 -- `making::well_made` meets its contract: the parts of the definition, in its order.
-use Prim.Native.Nat.{◌≤◌, ◌<◌}
+use Prim.Native.Nat.{◌<◌}
 use mathlib.Core.Path.{◌≡◌, sym, ap, subst, ◌∙◌}
 use mathlib.Core.Bool.{true, false, cond}
-use native.Mathlib.Nat.{le_trans}
-use Rattle.tickets.specs.Tickets.{words_in, named_in, most_of, counts_well_made, names_well_made}
-use Rattle.tickets.specs.Table.{claims_in, phase_by, targets_of}
-use Rattle.tickets.proofs.Made.{most_of_lem}
-use Rattle.making.proofs.Parts.{most_told, none_stands, many_targets, one_bad, counts_bad, by_names}
+use Rattle.tickets.specs.Tickets.{words_in, named_in, counts_well_made, names_well_made}
+use Rattle.tickets.specs.Table.{claims_in, targets_of}
+use Rattle.making.proofs.Parts.{most_told, within_most, none_stands, many_targets, one_bad, counts_bad, by_names}
 use Rattle.making.proofs.well_made.Goals as goal
 
 pub returns-then-ticket : goal.returns-then-ticket
@@ -20,23 +18,17 @@ returns-then-most_targets-ticket c =
     let most = most_told args.ticket _ _ (c.is_view-view.ensures (claims_in args.ticket)) c.most_targets.ensures in
     sym (many_targets args.targets.now args.slot args.ticket c.if-ticket.false (subst (λ limit. limit < args.ticket.n) most c.if-most_targets-ticket.true))
 
-pub targets_well_made-requires : goal.targets_well_made-requires
-targets_well_made-requires c =
-    let args = c.args in
-    let most : args.ticket.n ≤ most_of (phase_by args.ticket.kind (claims_in args.ticket)) = subst (λ limit. args.ticket.n ≤ limit) (most_told args.ticket _ _ (c.is_view-view.ensures (claims_in args.ticket)) c.most_targets.ensures) c.if-most_targets-ticket.false in
-    (c.requires, le_trans most (most_of_lem (phase_by args.ticket.kind (claims_in args.ticket))))
-
 pub returns-then-not-targets_well_made : goal.returns-then-not-targets_well_made
 returns-then-not-targets_well_made c =
     let args = c.args in
-    let most : args.ticket.n ≤ most_of (phase_by args.ticket.kind (claims_in args.ticket)) = subst (λ limit. args.ticket.n ≤ limit) (most_told args.ticket _ _ (c.is_view-view.ensures (claims_in args.ticket)) c.most_targets.ensures) c.if-most_targets-ticket.false in
+    let most = within_most args.ticket _ _ (c.is_view-view.ensures (claims_in args.ticket)) c.most_targets.ensures c.if-most_targets-ticket.false in
     let bad : c.targets_well_made.result ≡ false = c.if-not-targets_well_made.true in
     sym (one_bad args.targets.now args.slot args.ticket c.if-ticket.false most (sym c.targets_well_made.ensures ∙ bad))
 
 pub returns-then-not-counts_fit : goal.returns-then-not-counts_fit
 returns-then-not-counts_fit c =
     let args = c.args in
-    let most : args.ticket.n ≤ most_of (phase_by args.ticket.kind (claims_in args.ticket)) = subst (λ limit. args.ticket.n ≤ limit) (most_told args.ticket _ _ (c.is_view-view.ensures (claims_in args.ticket)) c.most_targets.ensures) c.if-most_targets-ticket.false in
+    let most = within_most args.ticket _ _ (c.is_view-view.ensures (claims_in args.ticket)) c.most_targets.ensures c.if-most_targets-ticket.false in
     let ticket = args.ticket in
     let good : c.targets_well_made.result ≡ true = c.if-not-targets_well_made.false in
     let bad : c.counts_fit.result ≡ false = c.if-not-counts_fit.true in
@@ -45,16 +37,10 @@ returns-then-not-counts_fit c =
     (sym c.targets_well_made.ensures ∙ good)
     (ap (λ p. counts_well_made p ticket.n ticket.claimed ticket.done) (sym c.phase-phase.ensures) ∙ sym c.counts_fit.ensures ∙ bad))
 
-pub names_fit-requires : goal.names_fit-requires
-names_fit-requires c =
-    let args = c.args in
-    let most : args.ticket.n ≤ most_of (phase_by args.ticket.kind (claims_in args.ticket)) = subst (λ limit. args.ticket.n ≤ limit) (most_told args.ticket _ _ (c.is_view-view.ensures (claims_in args.ticket)) c.most_targets.ensures) c.if-most_targets-ticket.false in
-    (c.requires, le_trans most (most_of_lem (phase_by args.ticket.kind (claims_in args.ticket))))
-
 pub returns : goal.returns
 returns c =
     let args = c.args in
-    let most : args.ticket.n ≤ most_of (phase_by args.ticket.kind (claims_in args.ticket)) = subst (λ limit. args.ticket.n ≤ limit) (most_told args.ticket _ _ (c.is_view-view.ensures (claims_in args.ticket)) c.most_targets.ensures) c.if-most_targets-ticket.false in
+    let most = within_most args.ticket _ _ (c.is_view-view.ensures (claims_in args.ticket)) c.most_targets.ensures c.if-most_targets-ticket.false in
     let ticket = args.ticket in
     let targets = targets_of args.targets.now args.slot ticket.n in
     let good : c.targets_well_made.result ≡ true = c.if-not-targets_well_made.false in

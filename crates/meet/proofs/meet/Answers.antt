@@ -1,77 +1,73 @@
 -- `meet::meet` meets its contract: the checks are made in their order, the size is known, and only then is anything written.
-use mathlib.Core.Path.{sym, ap, ◌∙◌}
+use Rattle.std.specs.Prelude.{Ok}
+use mathlib.Core.Path.{◌≡◌, sym, ap, ◌∙◌}
+use Prim.Native.Nat.{◌≤◌}
 use native.Mathlib.Omega.{arith}
 use lib.ListN.{length}
+use Rattle.std.proofs.Common.{sum}
 use Rattle.words.specs.declared.LegLayout.TheVariants.{FourWords}
+use Rattle.words.specs.Words.{Words, words_in_book}
 use Rattle.soundness.specs.InWords.{plain_in}
-use Rattle.meeting.specs.declared.Met.TheVariants.{Written}
-use Rattle.meeting.specs.Meeting.{station_list, at_front}
+use Rattle.meeting.specs.Meeting.{station_list, at_front, meeting_of}
+use Rattle.meeting.specs.Statements.{longest_list}
 use Rattle.meeting.proofs.Telling.{refused_1, refused_15}
-use Rattle.stations.specs.Counting.{sum_of}
+use Rattle.stations.specs.Counting.{list_length}
 use Rattle.stations.proofs.Walking.{all_few}
 use Rattle.stations.proofs.Counting.{sum_counts}
 use Rattle.meet.proofs.Whole.{list_length_lem, words_few, refused_21, list_out}
 use Rattle.meet.proofs.meet.Goals as goal
+use Rattle.meet.proofs.meet.Goals.{After-is_plain, After-size_of-size}
 
-pub returns-then-book-ne-WORDS : goal.returns-then-book-ne-WORDS
-returns-then-book-ne-WORDS c =
-    let args = c.args in
-    sym (refused_1 args.book.now args.station args.out.now c.if-book-ne-WORDS.true)
+-- The array is the book, of whole length.
+long : (c : After-is_plain) → length c.in-Some.whole.now ≡ words_in_book
+long c = ap length c.in-Some.ensures.cases.same ∙ c.in-Some.ensures.cases.long
+
+few : (c : After-size_of-size) → list_length c.size_of-size.result ≤ longest_list
+few c = words_few c.in-Some.whole.now (sym c.is_plain.ensures ∙ c.if-not-is_plain.false) c.args.station _ _ c.counts_at-counts.ensures c.size_of-size.ensures
+
+pub returns-in_default : goal.returns-in_default
+returns-in_default c =
+    sym (refused_1 c.args.book.now c.args.station c.args.out.now c.in_default.ensures.cases)
 
 pub returns-then-not-is_plain : goal.returns-then-not-is_plain
 returns-then-not-is_plain c =
-    let args = c.args in
-    sym (refused_15 args.book.now args.station args.out.now c.if-book-ne-WORDS.false (sym c.is_plain.ensures ∙ c.if-not-is_plain.true))
-
-pub counts_at-counts-requires : goal.counts_at-counts-requires
-counts_at-counts-requires c =
-    (c.if-book-ne-WORDS.false, sym c.is_plain.ensures ∙ c.if-not-is_plain.false)
+    let words = c.in-Some.whole.now in
+    sym (refused_15 words c.args.station c.args.out.now (long (goal.at.returns-then-not-is_plain c).After-is_plain) (sym c.is_plain.ensures ∙ c.if-not-is_plain.true))
+    ∙ ap (λ (w : Words). meeting_of w c.args.station c.args.out.now) c.in-Some.ensures.cases.same
 
 pub size_of-size-requires : goal.size_of-size-requires
 size_of-size-requires c =
-    let args = c.args in
-    let book = args.book.now in
+    let words = c.in-Some.whole.now in
     omega
-    (arith, ap sum_of c.counts_at-counts.ensures, sum_counts args.station (plain_in FourWords book), all_few book (sym c.is_plain.ensures ∙ c.if-not-is_plain.false) args.station)
+    (arith, ap sum c.counts_at-counts.ensures, sum_counts c.args.station (plain_in FourWords words), all_few words (sym c.is_plain.ensures ∙ c.if-not-is_plain.false) c.args.station)
 
 pub overflow_add-words : goal.overflow_add-words
-overflow_add-words c =
-    let args = c.args in
-    let few = words_few args.book.now (sym c.is_plain.ensures ∙ c.if-not-is_plain.false) args.station _ _ c.counts_at-counts.ensures c.size_of-size.ensures in
-    omega (arith, few)
+overflow_add-words c = omega (arith, few (goal.at.overflow_add-words c).After-size_of-size)
 
 pub overflow_mul-words : goal.overflow_mul-words
-overflow_mul-words c =
-    let args = c.args in
-    let few = words_few args.book.now (sym c.is_plain.ensures ∙ c.if-not-is_plain.false) args.station _ _ c.counts_at-counts.ensures c.size_of-size.ensures in
-    omega (arith, few)
+overflow_mul-words c = omega (arith, few (goal.at.overflow_mul-words c).After-size_of-size)
 
 pub overflow_add-words-2 : goal.overflow_add-words-2
-overflow_add-words-2 c =
-    let args = c.args in
-    let few = words_few args.book.now (sym c.is_plain.ensures ∙ c.if-not-is_plain.false) args.station _ _ c.counts_at-counts.ensures c.size_of-size.ensures in
-    omega (arith, few)
+overflow_add-words-2 c = omega (arith, few (goal.at.overflow_add-words-2 c).After-size_of-size)
 
 pub returns-then-out-words : goal.returns-then-out-words
 returns-then-out-words c =
     let args = c.args in
-    let book = args.book.now in
-    let sound = sym c.is_plain.ensures ∙ c.if-not-is_plain.false in
-    let long = list_length_lem args.station (plain_in FourWords book) _ _ c.counts_at-counts.ensures c.size_of-size.ensures in
-    sym (refused_21 book args.station args.out.now c.if-book-ne-WORDS.false sound (omega (arith, long, c.if-out-words.true)))
+    let words = c.in-Some.whole.now in
+    let told = list_length_lem args.station (plain_in FourWords words) _ _ c.counts_at-counts.ensures c.size_of-size.ensures in
+    sym (refused_21 words args.station args.out.now (long (goal.at.returns-then-out-words c).After-is_plain) (sym c.is_plain.ensures ∙ c.if-not-is_plain.false) (omega (arith, told, c.if-out-words.true)))
+    ∙ ap (λ (w : Words). meeting_of w args.station args.out.now) c.in-Some.ensures.cases.same
 
 pub write_list-end-requires : goal.write_list-end-requires
-write_list-end-requires c =
-    let sound = sym c.is_plain.ensures ∙ c.if-not-is_plain.false in
-    ((((c.if-book-ne-WORDS.false, sound), c.counts_at-counts.ensures), c.size_of-size.ensures), omega (arith, c.if-out-words.false))
+write_list-end-requires c = (c.counts_at-counts.ensures, c.size_of-size.ensures, omega (arith, c.if-out-words.false))
 
 pub returns : goal.returns
 returns c =
     let args = c.args in
-    let book = args.book.now in
-    let sound = sym c.is_plain.ensures ∙ c.if-not-is_plain.false in
-    let long = list_length_lem args.station (plain_in FourWords book) _ _ c.counts_at-counts.ensures c.size_of-size.ensures in
-    let list = station_list book args.station in
-    ◌∙◌ {b = (Written (length list), at_front args.out.now list)}
-    (λ i. (Written (c.write_list-end.ensures.0 i), c.write_list-end.ensures.1 i))
-    (sym (list_out book args.station args.out.now c.if-book-ne-WORDS.false sound (omega (arith, long, c.if-out-words.false))))
+    let words = c.in-Some.whole.now in
+    let told = list_length_lem args.station (plain_in FourWords words) _ _ c.counts_at-counts.ensures c.size_of-size.ensures in
+    let list = station_list words args.station in
+    ◌∙◌ {b = (Ok (length list), at_front args.out.now list)}
+    (λ i. (Ok (c.write_list-end.ensures.0 i), c.write_list-end.ensures.1 i))
+    (sym (list_out words args.station args.out.now (long (goal.at.returns c).After-is_plain) (sym c.is_plain.ensures ∙ c.if-not-is_plain.false) (omega (arith, told, c.if-out-words.false))))
+    ∙ ap (λ (w : Words). meeting_of w args.station args.out.now) c.in-Some.ensures.cases.same

@@ -6,11 +6,11 @@ use Rattle.quick.proofs.put_told.Goals as goal
 
 pub returns : goal.returns
 returns c =
-    let long = c.chosen_count in
-    let fields = c.chosen_long-fields in
-    let head = c.chosen_long-head in
-    let inner = c.chosen_long in
-    let many = c.chosen_count-many in
+    let long = c.chosen-2 in
+    let fields = c.chosen-fields in
+    let head = c.chosen-head in
+    let inner = c.chosen in
+    let many = c.chosen-many in
     let kept = c.read16-kept in
     let args = c.args in
     told_by_lem args.out.now c.put32.new.out c.put32-2.new.out args.at (eqb args.after.done args.after.n) args.claims args.after

@@ -1,11 +1,11 @@
 -- `ranks::load` meets its contract: the checks are made in the order of the refusals.
+use Rattle.std.specs.Prelude.{Ok}
 use mathlib.Core.Path.{refl, sym, ◌∙◌}
 use mathlib.Core.Bool.{true, false}
 use native.Mathlib.Omega.{arith}
 use Rattle.legs.specs.Positions.{is_permutation}
 use Rattle.tickets.specs.Table.{table_of}
 use Rattle.calls.specs.Outcomes.{ticket_stands}
-use Rattle.calls.specs.declared.Outcome.TheVariants as Outcome
 use Rattle.ranks.proofs.Loading.{load_is, book_wrong_lem, book_right, permutation_long}
 use Rattle.ranks.proofs.load.Goals as goal
 
@@ -23,12 +23,12 @@ returns-then-any_stands c =
     sym (load_is c.args.book.now (table_of c.args.tickets) c.args.ranks.now c.args.loaded.now false true true (book_right c.args.book.now (omega (arith, c.if-book-ne-WORDS.false)))
     (sym c.is_permutation.ensures ∙ c.if-not-is_permutation.false) (sym (c.any_stands.ensures c.args.tickets.targets) ∙ c.if-any_stands.true))
 
-pub take_over-requires : goal.take_over-requires
-take_over-requires c =
-    permutation_long c.args.loaded.now (sym c.is_permutation.ensures ∙ c.if-not-is_permutation.false)
+pub copy_from_slice-requires : goal.copy_from_slice-requires
+copy_from_slice-requires c =
+    omega (arith, permutation_long c.args.loaded.now (sym c.is_permutation.ensures ∙ c.if-not-is_permutation.false))
 
 pub returns : goal.returns
 returns c =
-    (λ i. (Outcome.Done, c.take_over.ensures i))
+    (λ i. (Ok tt, c.copy_from_slice.ensures.after i))
     ∙ sym (load_is c.args.book.now (table_of c.args.tickets) c.args.ranks.now c.args.loaded.now false true false (book_right c.args.book.now (omega (arith, c.if-book-ne-WORDS.false)))
     (sym c.is_permutation.ensures ∙ c.if-not-is_permutation.false) (sym (c.any_stands.ensures c.args.tickets.targets) ∙ c.if-any_stands.false))

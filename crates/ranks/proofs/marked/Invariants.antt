@@ -1,12 +1,8 @@
 use mathlib.Core.Path.{◌≡◌}
-use Prim.Native.Nat.{◌≤◌}
-use lib.ListN.{length}
+use lib.ListN.{length, take}
 use Rattle.words.specs.Words.{passage_count}
-use Rattle.ranks.proofs.Marking.{Marked}
+use Rattle.ranks.specs.Marking.{MarksOf}
 use Rattle.ranks.proofs.marked.Given as goal
 
-abbrev pub invariant-loop-k : goal.invariant-loop-k
-invariant-loop-k l = (length l.found ≡ passage_count) × (l.k ≤ length l.ranks) × Marked l.found l.k l.ranks
-
-abbrev pub decreases-loop-k : goal.decreases-loop-k
-decreases-loop-k l = l.k
+abbrev pub invariant-loop-rank : goal.invariant-loop-rank
+invariant-loop-rank l = (length l.found ≡ passage_count) × MarksOf l.found (take l.rank-index l.ranks)

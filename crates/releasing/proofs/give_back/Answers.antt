@@ -12,11 +12,11 @@ target_at-target-requires c =
     let args = c.args in
     target_asked args.targets.now args.slot args.ticket c.requires.steps_in.made c.requires.steps_in.team_known args.ticket.done (omega (arith, next_claimed args.book.now args.targets.now args.slot args.ticket args.out.now args.at c.requires))
 
-pub conditional_swap-requires : goal.conditional_swap-requires
-conditional_swap-requires c =
+pub release-requires : goal.release-requires
+release-requires c =
     let target = c.target_at-target in
     let args = c.args in
-    target_inside GivingBack args.book.now args.targets.now args.slot args.ticket args.out.now args.at c.requires args.ticket.done (omega (arith, next_claimed args.book.now args.targets.now args.slot args.ticket args.out.now args.at c.requires)) target.result target.ensures
+    (c.requires.steps_in.team_known, target_inside GivingBack args.book.now args.targets.now args.slot args.ticket args.out.now args.at c.requires args.ticket.done (omega (arith, next_claimed args.book.now args.targets.now args.slot args.ticket args.out.now args.at c.requires)) target.result target.ensures)
 
 pub give_back-after-requires : goal.give_back-after-requires
 give_back-after-requires c =
@@ -26,29 +26,26 @@ give_back-after-requires c =
 
 pub returns-then-stands : goal.returns-then-stands
 returns-then-stands c =
-    let test = c.stands in
-    let mark = c.mark-mark in
-    let target = c.target_at-target in
     let args = c.args in
-    edit_returns args.book.now args.targets.now args.slot args.ticket args.out.now args.at c.requires target.result mark.result c.conditional_swap.new.book c.give_back-after.result c.put_returned-filled.result c.put_returned-filled.new.out
-    target.ensures mark.ensures c.conditional_swap.ensures.words c.give_back-after.ensures.slot (sym test.ensures ∙ c.if-stands.true) c.put_returned-filled.ensures
+    let target = c.target_at-target in
+    let after = c.give_back-after in
+    let left = c.leave in
+    rw left.ensures.ticket
+    (edit_returns args.book.now args.targets.now args.slot args.ticket args.out.now args.at c.requires target.result c.release.new.book after.result left.result.filled left.new.out
+    target.ensures c.release.ensures after.ensures.slot (sym c.stands.ensures ∙ c.if-stands.true) left.ensures.answer)
 
 pub target_at-differed-requires : goal.target_at-differed-requires
 target_at-differed-requires c =
     let args = c.args in
     target_asked args.targets.now args.slot args.ticket c.requires.steps_in.made c.requires.steps_in.team_known args.ticket.claimed (next_claimed args.book.now args.targets.now args.slot args.ticket args.out.now args.at c.requires).1
 
-pub put_stale-filled-requires : goal.put_stale-filled-requires
-put_stale-filled-requires c =
-    let steps = c.requires.steps_in in
-    record { inside = steps.inside; room = steps.room }
-
 pub returns : goal.returns
 returns c =
-    let differed = c.target_at-differed in
-    let test = c.stands in
-    let mark = c.mark-mark in
-    let target = c.target_at-target in
     let args = c.args in
-    edit_stale args.book.now args.targets.now args.slot args.ticket args.out.now args.at c.requires target.result mark.result c.conditional_swap.new.book c.give_back-after.result c.put_stale-filled.result c.put_stale-filled.new.out
-    target.ensures mark.ensures c.conditional_swap.ensures.words c.give_back-after.ensures.slot differed.result (sym test.ensures ∙ c.if-stands.false) differed.ensures c.put_stale-filled.ensures
+    let differed = c.target_at-differed in
+    let target = c.target_at-target in
+    let after = c.give_back-after in
+    let left = c.leave-2 in
+    rw left.ensures.ticket
+    (edit_stale args.book.now args.targets.now args.slot args.ticket args.out.now args.at c.requires target.result c.release.new.book after.result left.result.filled left.new.out
+    target.ensures c.release.ensures after.ensures.slot differed.result (sym c.stands.ensures ∙ c.if-stands.false) differed.ensures left.ensures.answer)

@@ -11,11 +11,11 @@ target_at-target-requires c =
     let args = c.args in
     target_asked args.targets.now args.slot args.ticket c.requires.steps_in.made c.requires.steps_in.team_known args.ticket.done (puts_next args.book.now args.targets.now args.slot args.ticket args.out.now args.at c.requires).1
 
-pub conditional_swap-requires : goal.conditional_swap-requires
-conditional_swap-requires c =
+pub release-requires : goal.release-requires
+release-requires c =
     let target = c.target_at-target in
     let args = c.args in
-    target_inside Putting args.book.now args.targets.now args.slot args.ticket args.out.now args.at c.requires args.ticket.done (puts_next args.book.now args.targets.now args.slot args.ticket args.out.now args.at c.requires).1 target.result target.ensures
+    (c.requires.steps_in.team_known, target_inside Putting args.book.now args.targets.now args.slot args.ticket args.out.now args.at c.requires args.ticket.done (puts_next args.book.now args.targets.now args.slot args.ticket args.out.now args.at c.requires).1 target.result target.ensures)
 
 pub put-after-requires : goal.put-after-requires
 put-after-requires c =
@@ -24,18 +24,20 @@ put-after-requires c =
 
 pub returns-then-stands : goal.returns-then-stands
 returns-then-stands c =
-    let test = c.stands in
-    let mark = c.mark-mark in
-    let target = c.target_at-target in
     let args = c.args in
-    edit_puts args.book.now args.targets.now args.slot args.ticket args.out.now args.at c.requires target.result mark.result c.conditional_swap.new.book c.put-after.result c.put_put-filled.result c.put_put-filled.new.out
-    target.ensures mark.ensures c.conditional_swap.ensures.words c.put-after.ensures.slot (sym test.ensures ∙ c.if-stands.true) c.put_put-filled.ensures
+    let target = c.target_at-target in
+    let after = c.put-after in
+    let left = c.leave in
+    rw left.ensures.ticket
+    (edit_puts args.book.now args.targets.now args.slot args.ticket args.out.now args.at c.requires target.result c.release.new.book after.result left.result.filled left.new.out
+    target.ensures c.release.ensures after.ensures.slot (sym c.stands.ensures ∙ c.if-stands.true) left.ensures.answer)
 
 pub returns : goal.returns
 returns c =
-    let test = c.stands in
-    let mark = c.mark-mark in
-    let target = c.target_at-target in
     let args = c.args in
-    edit_granted args.book.now args.targets.now args.slot args.ticket args.out.now args.at c.requires target.result mark.result c.conditional_swap.new.book c.put-after.result c.put_granted-filled.result c.put_granted-filled.new.out
-    target.ensures mark.ensures c.conditional_swap.ensures.words c.put-after.ensures.slot (sym test.ensures ∙ c.if-stands.false) c.put_granted-filled.ensures
+    let target = c.target_at-target in
+    let after = c.put-after in
+    let left = c.leave-2 in
+    rw left.ensures.ticket
+    (edit_granted args.book.now args.targets.now args.slot args.ticket args.out.now args.at c.requires target.result c.release.new.book after.result left.result.filled left.new.out
+    target.ensures c.release.ensures after.ensures.slot (sym c.stands.ensures ∙ c.if-stands.false) left.ensures.answer)

@@ -9,12 +9,12 @@ use Rattle.sound.proofs.fourth_is.Goals as goal
 
 pub newer_word-requires : goal.newer_word-requires
 newer_word-requires c =
-    (c.requires.1, subst (λ layout. c.args.leg ≤ last_leg_in layout) c.in-FourWords.is c.requires.2)
+    (c.requires.0, subst (λ layout. c.args.leg ≤ last_leg_in layout) c.in-FourWords.is c.requires.1)
 
 pub bounds-book-newer_word : goal.bounds-book-newer_word
 bounds-book-newer_word c =
-    let most = subst (λ layout. c.args.leg ≤ last_leg_in layout) c.in-FourWords.is c.requires.2 in
-    omega (arith, most, c.requires.1, c.requires.0, c.newer_word.ensures)
+    let most = subst (λ layout. c.args.leg ≤ last_leg_in layout) c.in-FourWords.is c.requires.1 in
+    omega (arith, most, c.newer_word.ensures)
 
 pub returns-in-FourWords : goal.returns-in-FourWords
 returns-in-FourWords c =

@@ -1,11 +1,15 @@
 -- `sound::is_sound` meets its contract: the walks, the ones, and then the legs that none of the walks used.
-use mathlib.Core.Path.{sym, ◌∙◌}
-use Rattle.sound.proofs.Bits.{went_room, counts_fit, sound_broken, sound_uncounted, sound_through}
+use mathlib.Core.Path.{◌≡◌, sym, ap, ◌∙◌}
+use Prim.Native.Nat.{ℕ}
+use lib.ListN.{length, replicate}
+use borrow.Author.Rules.{rules}
+use Rattle.sound.proofs.Bits.{none_marked, went_room, counts_fit, sound_broken, sound_uncounted, sound_through}
 use Rattle.sound.proofs.is_sound.Goals as goal
 
 pub walk_passages-requires : goal.walk_passages-requires
 walk_passages-requires c =
-    (c.requires.0, c.clear.ensures c.args.layout c.requires.1)
+    let zeros : c.fill.new.self ≡ replicate (length c.args.bits.now) 0 = search rules in
+    none_marked c.args.layout c.fill.new.self (zeros ∙ ap (λ (n : ℕ). replicate n 0) c.requires)
 
 pub returns-then-not-walk_passages : goal.returns-then-not-walk_passages
 returns-then-not-walk_passages c =
@@ -19,7 +23,7 @@ count_ones-requires c =
 
 pub sum_of_counts-requires : goal.sum_of_counts-requires
 sum_of_counts-requires c =
-    (c.requires.0, counts_fit c.args.layout c.args.book.now c.walk_passages.result _ c.if-not-walk_passages.false c.walk_passages.ensures)
+    counts_fit c.args.layout c.args.book.now c.walk_passages.result _ c.if-not-walk_passages.false c.walk_passages.ensures
 
 pub returns-then-count_ones-sum_of_counts : goal.returns-then-count_ones-sum_of_counts
 returns-then-count_ones-sum_of_counts c =

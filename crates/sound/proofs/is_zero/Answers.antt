@@ -1,50 +1,27 @@
--- `sound::is_zero` meets its contract, word by word.
-use Prim.Native.Nat.{ℕ, ◌+◌}
-use mathlib.Core.Path.{sym, ap, ◌∙◌}
+-- `sound::is_zero` meets its contract, by its words in both layouts.
+use Prim.Native.Nat.{ℕ, ◌+◌, ◌-◌, ◌<◌}
+use mathlib.Core.Path.{◌≡◌, sym, ap, ◌∙◌}
+use mathlib.Core.Bool.{◌&&◌}
 use native.Mathlib.Omega.{arith}
-use Rattle.words.proofs.Tests.{next_test, failed_test, last_test}
-use Rattle.soundness.proofs.Walking.{zero_word, other_word}
-use Rattle.sound.proofs.Bits.{three_inside}
+use lib.Dec.{eqb}
+use lib.ListN.{length, take, drop}
+use Rattle.std.specs.List.{list_all}
+use Rattle.soundness.specs.Checking.{fourth_is, is_zero}
+use Rattle.sound.proofs.Bits.{three_inside, zero_words}
 use Rattle.sound.proofs.is_zero.Goals as goal
+use Rattle.sound.proofs.is_zero.Goals.{After-all_zero}
 
-pub bounds-book-at : goal.bounds-book-at
-bounds-book-at c =
-    omega (arith, three_inside c.args.layout c.args.leg c.link_word_in-at.result c.link_word_in-at.ensures c.requires.1 c.requires.2, c.requires.0)
+told : (c : After-all_zero) → (c.all_zero.result && fourth_is c.args.layout c.args.book.now 0 c.args.leg) ≡ is_zero c.args.layout c.args.book.now c.args.leg
+told c =
+    let at = c.link_word_in-at.result in
+    let inside : at + 2 < length c.args.book.now = omega (arith, three_inside c.args.layout c.args.leg at c.link_word_in-at.ensures c.requires.0 c.requires.1) in
+    zero_words c.args.layout c.args.book.now c.args.leg at c.link_word_in-at.ensures inside c.all_zero.result
+    (let three : at + 3 - at ≡ 3 = omega arith in c.all_zero.ensures ∙ ap (λ (n : ℕ). list_all (λ (word : ℕ). eqb word 0) (take n (drop at c.args.book.now))) three)
 
-pub returns-then-book-at-ne0 : goal.returns-then-book-at-ne0
-returns-then-book-at-ne0 c =
-    let words = c.args.book.now in
-    sym (failed_test _ _ (other_word words _ _ c.link_word_in-at.ensures c.if-book-at-ne0.true))
+pub returns-then-all_zero : goal.returns-then-all_zero
+returns-then-all_zero c =
+    c.fourth_is.ensures ∙ ap (λ b. b && fourth_is c.args.layout c.args.book.now 0 c.args.leg) (sym c.if-all_zero.true) ∙ told (goal.at.returns-then-all_zero c).After-all_zero
 
-pub bounds-book-at-2 : goal.bounds-book-at-2
-bounds-book-at-2 c =
-    omega (arith, three_inside c.args.layout c.args.leg c.link_word_in-at.result c.link_word_in-at.ensures c.requires.1 c.requires.2, c.requires.0)
-
-pub returns-then-book-at-ne0-2 : goal.returns-then-book-at-ne0-2
-returns-then-book-at-ne0-2 c =
-    let words = c.args.book.now in
-    let here = c.link_word_in-at.ensures in
-    sym (next_test _ _ (zero_word words _ _ here c.if-book-at-ne0.false)
-    ∙ failed_test _ _ (other_word words _ _ (ap (λ (at : ℕ). at + 1) here) c.if-book-at-ne0-2.true))
-
-pub bounds-book-at-3 : goal.bounds-book-at-3
-bounds-book-at-3 c =
-    omega (arith, three_inside c.args.layout c.args.leg c.link_word_in-at.result c.link_word_in-at.ensures c.requires.1 c.requires.2, c.requires.0)
-
-pub returns-then-book-at-ne0-3 : goal.returns-then-book-at-ne0-3
-returns-then-book-at-ne0-3 c =
-    let words = c.args.book.now in
-    let here = c.link_word_in-at.ensures in
-    sym (next_test _ _ (zero_word words _ _ here c.if-book-at-ne0.false)
-    ∙ next_test _ _ (zero_word words _ _ (ap (λ (at : ℕ). at + 1) here) c.if-book-at-ne0-2.false)
-    ∙ failed_test _ _ (other_word words _ _ (ap (λ (at : ℕ). at + 2) here) c.if-book-at-ne0-3.true))
-
-pub returns : goal.returns
-returns c =
-    let words = c.args.book.now in
-    let here = c.link_word_in-at.ensures in
-    c.fourth_is.ensures
-    ∙ sym (next_test _ _ (zero_word words _ _ here c.if-book-at-ne0.false)
-    ∙ next_test _ _ (zero_word words _ _ (ap (λ (at : ℕ). at + 1) here) c.if-book-at-ne0-2.false)
-    ∙ next_test _ _ (zero_word words _ _ (ap (λ (at : ℕ). at + 2) here) c.if-book-at-ne0-3.false)
-    ∙ last_test _)
+pub returns-else-all_zero : goal.returns-else-all_zero
+returns-else-all_zero c =
+    c.if-all_zero.false ∙ ap (λ b. b && fourth_is c.args.layout c.args.book.now 0 c.args.leg) (sym c.if-all_zero.false) ∙ told (goal.at.returns-else-all_zero c).After-all_zero

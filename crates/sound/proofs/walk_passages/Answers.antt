@@ -7,25 +7,25 @@ use Rattle.sound.proofs.Bits.{reached_on, reached_off, reached_all}
 use Rattle.sound.proofs.walk_passages.Goals as goal
 
 pub loop-passage-init : goal.loop-passage-init
-loop-passage-init c = (omega arith, record { used = []; marked = c.requires.1; same = below_none _ _ })
+loop-passage-init c = record { used = []; marked = c.requires; same = below_none _ _ }
 
 pub walk_passage-requires : goal.walk_passage-requires
-walk_passage-requires c = ((c.requires.0, c.loop-passage.invariant.1.marked.room), omega arith)
+walk_passage-requires c = (c.loop-passage.invariant.marked.room, omega arith)
 
 pub returns-then-not-walk_passage : goal.returns-then-not-walk_passage
 returns-then-not-walk_passage c =
     let loop = c.loop-passage in
     let args = c.args in
-    reached_off args.layout args.book.now loop.bits _ loop.passage c.walk_passage.result loop.invariant.1 (c.walk_passage.ensures loop.invariant.1.used loop.invariant.1.marked) c.if-not-walk_passage.true passage_count (omega arith)
+    reached_off args.layout args.book.now loop.bits _ loop.passage c.walk_passage.result loop.invariant (c.walk_passage.ensures loop.invariant.used loop.invariant.marked) c.if-not-walk_passage.true passage_count (omega arith)
 
 pub loop-passage-preserved : goal.loop-passage-preserved
 loop-passage-preserved c =
     let loop = c.loop-passage in
     let args = c.args in
-    (omega arith, reached_on args.layout args.book.now loop.bits _ loop.passage c.walk_passage.result loop.invariant.1 (c.walk_passage.ensures loop.invariant.1.used loop.invariant.1.marked) c.if-not-walk_passage.false)
+    reached_on args.layout args.book.now loop.bits _ loop.passage c.walk_passage.result loop.invariant (c.walk_passage.ensures loop.invariant.used loop.invariant.marked) c.if-not-walk_passage.false
 
 pub returns : goal.returns
 returns c =
     let loop = c.loop-passage in
     let args = c.args in
-    reached_all args.layout args.book.now loop.bits loop.passage loop.invariant.1 passage_count (omega arith)
+    reached_all args.layout args.book.now loop.bits loop.passage loop.invariant passage_count (omega arith)

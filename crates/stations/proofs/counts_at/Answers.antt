@@ -13,25 +13,24 @@ use Rattle.stations.proofs.Counting.{length_counts, count_told}
 use Rattle.stations.proofs.counts_at.Goals as goal
 
 pub loop-passage-init : goal.loop-passage-init
-loop-passage-init c = (omega arith, omega arith, λ i below. absurd (omega arith))
+loop-passage-init c = (omega arith, λ i below. absurd (omega arith))
 
 pub loop-passage-preserved : goal.loop-passage-preserved
 loop-passage-preserved c =
     let loop = c.loop-passage in
     let args = c.args in
-    let book = args.book.now in
+    let book = args.book.words.now in
     let whole = counts_at args.station (plain_in FourWords book) in
-    let here = c.count_of.ensures ∙ sym (count_told book args.station loop.passage (omega (arith, c.loop-passage-test.true))) in (
-      omega (arith, c.loop-passage-test.true),
-      length-set loop.counts loop.passage c.count_of.result ∙ loop.invariant.1,
-      λ i below. ap (λ (count : ℕ). get_or (set loop.counts loop.passage count) i 0) here ∙ same_more loop.passage loop.counts whole (omega (arith, loop.invariant.1, c.loop-passage-test.true)) loop.invariant.2 i below,
+    let here = c.count_of.ensures ∙ sym (count_told book args.station loop.passage (omega (arith, loop.invariant.0))) in (
+      length-set loop.count-items loop.passage _ ∙ loop.invariant.0,
+      λ i below. ap (λ (count : ℕ). get_or (set loop.count-items loop.passage count) i 0) here ∙ same_more loop.passage loop.count-items whole (omega (arith, loop.invariant.0)) loop.invariant.1 i below,
     )
 
 pub returns : goal.returns
 returns c =
     let loop = c.loop-passage in
     let args = c.args in
-    let book = args.book.now in
+    let book = args.book.words.now in
     let whole = counts_at args.station (plain_in FourWords book) in
-    ext_get_or 0 loop.counts whole (loop.invariant.1 ∙ sym (length_counts args.station (plain_in FourWords book) ∙ length_plain book))
-    (λ i below. loop.invariant.2 i (omega (arith, c.loop-passage-test.false, loop.invariant.1)))
+    ext_get_or 0 loop.count-items whole (loop.invariant.0 ∙ sym (length_counts args.station (plain_in FourWords book) ∙ length_plain book))
+    (λ i below. loop.invariant.1 i (omega (arith, loop.invariant.0)))

@@ -1,5 +1,4 @@
 use mathlib.Core.Path.{◌≡◌}
-use Prim.Native.Nat.{◌-◌, ◌≤◌}
 use lib.ListN.{length}
 use Rattle.words.specs.declared.LegLayout.TheVariants.{FourWords}
 use Rattle.words.specs.Words.{passage_count}
@@ -9,8 +8,4 @@ use Rattle.stations.specs.Counting.{counts_at}
 use Rattle.stations.proofs.counts_at.Given as goal
 
 abbrev pub invariant-loop-passage : goal.invariant-loop-passage
-invariant-loop-passage l =
-    (l.passage ≤ passage_count) × (length l.counts ≡ passage_count) × SameUpTo l.passage l.counts (counts_at l.station (plain_in FourWords l.book))
-
-abbrev pub decreases-loop-passage : goal.decreases-loop-passage
-decreases-loop-passage l = passage_count - l.passage
+invariant-loop-passage l = (length l.count-items ≡ passage_count) × SameUpTo l.passage l.count-items (counts_at l.station (plain_in FourWords l.book.words.now))

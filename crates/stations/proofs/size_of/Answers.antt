@@ -1,45 +1,31 @@
 -- `stations::size_of` meets its contract: the size so far is that of the counts passed, from the last on.
-use mathlib.Core.Path.{◌≡◌, sym, ap, ◌∙◌}
-use Prim.Native.Nat.{ℕ, ◌+◌, ◌-◌, ◌≤◌}
+use mathlib.Core.Path.{◌≡◌, sym, subst}
+use mathlib.Core.List.{List}
+use Prim.Native.Nat.{ℕ}
 use native.Mathlib.Omega.{arith}
-use lib.ListN.{length, get_or, drop, length-drop}
-use Rattle.words.specs.Words.{passage_count}
+use borrow.Author.Rules.{rules}
 use Rattle.stations.specs.declared.Size.{Size}
-use Rattle.stations.specs.Counting.{sum_of, with_passage, size_of}
-use Rattle.stations.proofs.Counting.{size_legs, size_next, size_none, sum_next, sum_most, few_passages, few_pairs}
+use Rattle.stations.proofs.Counting.{Sized, sized_none, sized_next, sized_fits, sized_all}
 use Rattle.stations.proofs.size_of.Goals as goal
 
-pub loop-left-init : goal.loop-left-init
-loop-left-init c = (omega arith, sym (size_none c.args.counts passage_count (omega arith)))
+pub loop-count-init : goal.loop-count-init
+loop-count-init c =
+    let counts = c.args.counts in
+    let all : c.into_iter-count-iterator.result.iter.rest.now ≡ counts = cc in
+    let zero : c.default-size.result ≡ record { legs = 0; passages = 0; pairs = 0 } = search rules in
+    subst (λ (left : List ℕ). Sized counts left c.default-size.result) (sym all) (subst (λ (size : Size). Sized counts counts size) (sym zero) (sized_none counts))
 
 pub with_passage-size-requires : goal.with_passage-size-requires
 with_passage-size-requires c =
-    let loop = c.loop-left in
-    let counts = c.args.counts in
-    let back : loop.left - 1 + 1 ≡ loop.left = omega (arith, c.loop-left-test.true) in
-    let rest = drop loop.left counts in
-    let next : sum_of (drop (loop.left - 1) counts) ≡ get_or counts (loop.left - 1) 0 + sum_of rest =
-    sum_next counts (loop.left - 1) (omega (arith, c.loop-left-test.true, loop.invariant.0)) ∙ ap (λ (n : ℕ). get_or counts (loop.left - 1) 0 + sum_of (drop n counts)) back in
-    let short : length rest ≤ passage_count = omega (arith, length-drop loop.left counts) in (
-      (
-        omega (arith, ap (λ (s : Size). s.legs) loop.invariant.1, size_legs rest, next, sum_most counts (loop.left - 1), c.requires),
-        omega (arith, ap (λ (s : Size). s.passages) loop.invariant.1, few_passages rest, short),
-      ),
-      omega (arith, ap (λ (s : Size). s.pairs) loop.invariant.1, ap (λ (s : Size). s.passages) loop.invariant.1, few_pairs rest short),
-    )
+    let loop = c.loop-count in
+    sized_fits c.args.counts _ loop.size loop.invariant c.next.new.self.iter.rest.now c.in-Some.count.now c.in-Some.ensures.steps c.requires (omega arith)
 
-pub loop-left-preserved : goal.loop-left-preserved
-loop-left-preserved c =
-    let loop = c.loop-left in
-    let counts = c.args.counts in
-    let back : loop.left ≡ loop.left - 1 + 1 = omega (arith, c.loop-left-test.true) in (
-      omega (arith, loop.invariant.0),
-      c.with_passage-size.ensures
-          ∙ ap (with_passage (get_or counts (loop.left - 1) 0)) (loop.invariant.1 ∙ ap (λ (n : ℕ). size_of (drop n counts)) back)
-          ∙ size_next counts (loop.left - 1) (omega (arith, c.loop-left-test.true, loop.invariant.0)),
-    )
+pub loop-count-preserved : goal.loop-count-preserved
+loop-count-preserved c =
+    let loop = c.loop-count in
+    let left = c.next.new.self.iter.rest.now in
+    subst (λ (size : Size). Sized c.args.counts left size) (sym c.with_passage-size.ensures)
+    (sized_next c.args.counts _ loop.size loop.invariant left c.in-Some.count.now c.in-Some.ensures.steps)
 
 pub returns : goal.returns
-returns c = let loop = c.loop-left in
-    let none : loop.left ≡ 0 = omega (arith, c.loop-left-test.false) in
-    loop.invariant.1 ∙ ap (λ (n : ℕ). size_of (drop n c.args.counts)) none
+returns c = sized_all c.args.counts _ c.loop-count.size c.loop-count.invariant c.in-None.ensures.steps.0

@@ -13,8 +13,8 @@ target_at-target-requires c =
     let unclaimed = next_unclaimed args.book.now args.targets.now args.slot args.ticket args.out.now args.at c.requires in
     target_asked args.targets.now args.slot args.ticket c.requires.steps_in.made c.requires.steps_in.team_known args.ticket.claimed unclaimed
 
-pub swap_any_value-report-requires : goal.swap_any_value-report-requires
-swap_any_value-report-requires c =
+pub swap_any_value-found-requires : goal.swap_any_value-found-requires
+swap_any_value-found-requires c =
     let target = c.target_at-target in
     let args = c.args in
     let unclaimed = next_unclaimed args.book.now args.targets.now args.slot args.ticket args.out.now args.at c.requires in
@@ -27,8 +27,8 @@ returns-then-is_held c =
     let args = c.args in
     let targets = args.targets.now in
     record {
-      left = view_waits args.book.now targets args.slot args.ticket args.out.now args.at c.requires target.result mark.result c.swap_any_value-report.result.found c.swap_any_value-report.new.book c.waited.result.ticket c.waited.result.filled c.waited.new.out
-          target.ensures mark.ensures c.swap_any_value-report.ensures.found c.swap_any_value-report.ensures.words (sym c.is_held.ensures ∙ c.if-is_held.true) c.waited.ensures.ticket c.waited.ensures.answer;
+      left = view_waits args.book.now targets args.slot args.ticket args.out.now args.at c.requires target.result mark.result c.swap_any_value-found.result.found c.swap_any_value-found.new.book c.waited.result.ticket c.waited.result.filled c.waited.new.out
+          target.ensures mark.ensures c.swap_any_value-found.ensures.found c.swap_any_value-found.ensures.words (sym c.is_held.ensures ∙ c.if-is_held.true) c.waited.ensures.ticket c.waited.ensures.answer;
       others = nothing_elsewhere targets args.slot;
     }
 
@@ -44,15 +44,18 @@ claim-after-requires c =
 
 pub returns : goal.returns
 returns c =
-    let test = c.is_held in
     let mark = c.mark-mark in
     let target = c.target_at-target in
+    let swap = c.swap_any_value-found in
+    let after = c.claim-after in
+    let left = c.leave in
     let args = c.args in
     let targets = args.targets.now in
     let unclaimed = next_unclaimed args.book.now targets args.slot args.ticket args.out.now args.at c.requires in
     let few = few_targets targets args.slot args.ticket c.requires.steps_in.made in
     record {
-      left = view_notes args.book.now targets args.slot args.ticket args.out.now args.at c.requires target.result mark.result c.swap_any_value-report.result.found c.swap_any_value-report.new.book c.claim-after.result c.put_claimed-filled.result c.put_claimed-filled.new.out
-          target.ensures mark.ensures c.swap_any_value-report.ensures.found c.swap_any_value-report.ensures.words c.note.new.targets (sym test.ensures ∙ c.if-is_held.false) (omega (arith, unclaimed, few, c.requires.steps_in.team_known, c.note.ensures.long)) c.note.ensures.noted c.claim-after.ensures.slot c.put_claimed-filled.ensures;
-      others = noted_elsewhere targets c.note.new.targets args.slot args.ticket.claimed c.swap_any_value-report.result.found (omega (arith, unclaimed, few)) c.note.ensures.noted;
+      left = rw left.ensures.ticket
+          (view_notes args.book.now targets args.slot args.ticket args.out.now args.at c.requires target.result mark.result swap.result.found swap.new.book after.result left.result.filled left.new.out
+          target.ensures mark.ensures swap.ensures.found swap.ensures.words c.note.new.targets (sym c.is_held.ensures ∙ c.if-is_held.false) (omega (arith, unclaimed, few, c.requires.steps_in.team_known, c.note.array_long)) c.note.ensures after.ensures.slot left.ensures.answer);
+      others = noted_elsewhere targets c.note.new.targets args.slot args.ticket.claimed swap.result.found (omega (arith, unclaimed, few)) c.note.ensures;
     }

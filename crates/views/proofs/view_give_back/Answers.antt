@@ -13,12 +13,12 @@ target_at-target-requires c =
     let claimed = next_claimed args.book.now args.targets.now args.slot args.ticket args.out.now args.at c.requires in
     target_asked args.targets.now args.slot args.ticket c.requires.steps_in.made c.requires.steps_in.team_known args.ticket.done (omega (arith, claimed))
 
-pub conditional_swap-requires : goal.conditional_swap-requires
-conditional_swap-requires c =
+pub release-requires : goal.release-requires
+release-requires c =
     let target = c.target_at-target in
     let args = c.args in
     let claimed = next_claimed args.book.now args.targets.now args.slot args.ticket args.out.now args.at c.requires in
-    target_inside Viewed args.book.now args.targets.now args.slot args.ticket args.out.now args.at c.requires args.ticket.done (omega (arith, claimed)) target.result target.ensures
+    (c.requires.steps_in.team_known, target_inside Viewed args.book.now args.targets.now args.slot args.ticket args.out.now args.at c.requires args.ticket.done (omega (arith, claimed)) target.result target.ensures)
 
 pub give_back-after-requires : goal.give_back-after-requires
 give_back-after-requires c =
@@ -28,24 +28,26 @@ give_back-after-requires c =
 
 pub returns-then-stands : goal.returns-then-stands
 returns-then-stands c =
-    let test = c.stands in
-    let mark = c.mark-mark in
-    let target = c.target_at-target in
     let args = c.args in
-    view_returns args.book.now args.targets.now args.slot args.ticket args.out.now args.at c.requires target.result mark.result c.conditional_swap.new.book c.give_back-after.result c.put_returned-filled.result c.put_returned-filled.new.out
-    target.ensures mark.ensures c.conditional_swap.ensures.words c.give_back-after.ensures.slot (sym test.ensures ∙ c.if-stands.true) c.put_returned-filled.ensures
+    let target = c.target_at-target in
+    let after = c.give_back-after in
+    let left = c.leave in
+    rw left.ensures.ticket
+    (view_returns args.book.now args.targets.now args.slot args.ticket args.out.now args.at c.requires target.result c.release.new.book after.result left.result.filled left.new.out
+    target.ensures c.release.ensures after.ensures.slot (sym c.stands.ensures ∙ c.if-stands.true) left.ensures.answer)
 
-pub values_seen-values-requires : goal.values_seen-values-requires
-values_seen-values-requires c =
+pub values_seen-seen-requires : goal.values_seen-seen-requires
+values_seen-seen-requires c =
     let args = c.args in
     (c.requires.steps_in.team_known, few_named args.book.now args.targets.now args.slot args.ticket args.out.now args.at c.requires)
 
 pub returns : goal.returns
 returns c =
-    let values = c.values_seen-values in
-    let test = c.stands in
-    let mark = c.mark-mark in
-    let target = c.target_at-target in
     let args = c.args in
-    view_sees args.book.now args.targets.now args.slot args.ticket args.out.now args.at c.requires target.result mark.result c.conditional_swap.new.book c.give_back-after.result c.put_seen-filled.result c.put_seen-filled.new.out
-    target.ensures mark.ensures c.conditional_swap.ensures.words c.give_back-after.ensures.slot values.result (sym test.ensures ∙ c.if-stands.false) values.ensures c.put_seen-filled.ensures
+    let seen = c.values_seen-seen in
+    let target = c.target_at-target in
+    let after = c.give_back-after in
+    let left = c.leave-2 in
+    rw left.ensures.ticket
+    (view_sees args.book.now args.targets.now args.slot args.ticket args.out.now args.at c.requires target.result c.release.new.book after.result left.result.filled left.new.out
+    target.ensures c.release.ensures after.ensures.slot seen.result (sym c.stands.ensures ∙ c.if-stands.false) seen.ensures left.ensures.answer)

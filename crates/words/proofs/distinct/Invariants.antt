@@ -1,11 +1,9 @@
-use mathlib.Core.Path.{◌≡◌}
-use Prim.Native.Nat.{◌-◌}
-use lib.ListN.{take, drop}
+use Rattle.std.proofs.Common.{◌≡◌, length}
 use Rattle.words.specs.Tests.{distinct}
 use Rattle.words.proofs.distinct.Given as goal
 
-abbrev pub invariant-loop-k : goal.invariant-loop-k
-invariant-loop-k l = distinct (take l.n l.numbers) ≡ distinct (drop l.k (take l.n l.numbers))
+abbrev pub invariant-loop-number : goal.invariant-loop-number
+invariant-loop-number l = distinct l.numbers ≡ distinct l.rest
 
-abbrev pub decreases-loop-k : goal.decreases-loop-k
-decreases-loop-k l = l.n - l.k
+abbrev pub decreases-loop-number : goal.decreases-loop-number
+decreases-loop-number l = length l.rest

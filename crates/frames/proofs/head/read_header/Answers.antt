@@ -1,14 +1,28 @@
 -- `frames::head::read_header` meets its contract: the tests are made in the order of the refusals.
-use mathlib.Core.Path.{sym, ◌∙◌}
-use Rattle.frames.proofs.Headers.{too_short, too_long, other_count_lem, header_torn, Untorn, header_due, header_view, header_no_view, header_other, header_no_kind, step_header}
+use mathlib.Core.Path.{sym, ap, ◌∙◌}
+use Rattle.std.specs.Prelude.{Ok, Err}
+use Rattle.std.proofs.lemmas.Result.{err_from_is_err_and}
+use Rattle.frames.proofs.Headers.{too_short, too_long, other_count_lem, header_torn, Untorn, header_fits, header_misfits, header_no_kind, step_header}
+use Rattle.frames.specs.Kinds.{kind_number}
+use Rattle.frames.proofs.ReadKinds.{each_known, read_kind, no_kind}
 use Rattle.frames.proofs.head.read_header.Goals as goal
-use Rattle.frames.proofs.head.read_header.Goals.{After-read16-kind}
+use Rattle.frames.proofs.head.read_header.Goals.{After-read16, In_ok-kind}
 
 -- What is known once both fields are read.
-untorn : (c : After-read16-kind) → Untorn c.args.frame.now c.read16-length.result c.read16-kind.result
+untorn : (c : After-read16) → Untorn c.args.frame.now c.read16-length.result c.read16.result
 untorn c = record {
   is_length = c.read16-length.ensures.0;
-  is_kind_lem = c.read16-kind.ensures.0;
+  is_kind_lem = c.read16.ensures.0;
+  head = c.if-count-lt-HEAD.false;
+  most = c.if-count-gt-LONGEST.false;
+  counted = c.if-length-count.false;
+}
+
+-- The same of the kind that was read.
+read_as_kind : (c : In_ok-kind) → Untorn c.args.frame.now c.read16-length.result (kind_number c.in_ok-kind.kind)
+read_as_kind c = record {
+  is_length = c.read16-length.ensures.0;
+  is_kind_lem = read_kind c.read16.result _ c.in_ok-kind.ensures ∙ c.read16.ensures.0;
   head = c.if-count-lt-HEAD.false;
   most = c.if-count-gt-LONGEST.false;
   counted = c.if-length-count.false;
@@ -32,19 +46,14 @@ returns-then-length-count c = let frame = c.args.frame.now in
     let length_field_lem = c.read16-length.ensures.0 in
     (header_torn frame (other_count_lem frame c.if-count-lt-HEAD.false c.if-count-gt-LONGEST.false (rw length_field_lem at c.if-length-count.true)), tt)
 
-pub returns-then-length-due : goal.returns-then-length-due
-returns-then-length-due c = header_due (untorn (goal.at.returns-then-length-due c).After-read16-kind) (c.if-length-due.true ∙ c.length_of_kind-due.ensures)
+pub returns-in_err-kind : goal.returns-in_err-kind
+returns-in_err-kind c =
+    let p = err_from_is_err_and c.from_residual.result c.from_residual.ensures.1 in
+    let (four, none) = no_kind c.read16.result _ c.in_err-kind.ensures in
+    rw (p.1, p.2) (ap Err four ∙ header_no_kind (untorn (goal.at.returns-in_err-kind c).After-read16) none, tt)
 
-pub returns-then-fits_view : goal.returns-then-fits_view
-returns-then-fits_view c = header_view (untorn (goal.at.returns-then-fits_view c).After-read16-kind) c.if-kind-eq-VIEW.true (sym c.fits_view.ensures ∙ c.if-fits_view.true)
-
-pub returns-then-kind-eq-VIEW : goal.returns-then-kind-eq-VIEW
-returns-then-kind-eq-VIEW c = (header_no_view (untorn (goal.at.returns-then-kind-eq-VIEW c).After-read16-kind) c.if-kind-eq-VIEW.true (sym c.fits_view.ensures ∙ c.if-fits_view.false), tt)
-
-pub returns-then-due-eq0 : goal.returns-then-due-eq0
-returns-then-due-eq0 c =
-    (header_no_kind (untorn (goal.at.returns-then-due-eq0 c).After-read16-kind) c.if-kind-eq-VIEW.false (sym c.length_of_kind-due.ensures ∙ c.if-due-eq0.true), tt)
+pub returns-then-not-fits : goal.returns-then-not-fits
+returns-then-not-fits c = (header_misfits (read_as_kind (goal.at.returns-then-not-fits c).In_ok-kind) (each_known c.in_ok-kind.kind) (sym c.fits.ensures ∙ c.if-not-fits.true), tt)
 
 pub returns : goal.returns
-returns c = let due = c.length_of_kind-due.ensures in
-    (header_other (untorn (goal.at.returns c).After-read16-kind) c.if-kind-eq-VIEW.false (λ same. c.if-length-due.false (same ∙ sym due)) (λ none. c.if-due-eq0.false (due ∙ none)), tt)
+returns c = header_fits (read_as_kind (goal.at.returns c).In_ok-kind) (each_known c.in_ok-kind.kind) (sym c.fits.ensures ∙ c.if-not-fits.false)

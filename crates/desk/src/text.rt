@@ -1,0 +1,40 @@
+// The text of answers.
+use std::fmt::Display;
+use std::io::{Print, Stdout};
+use std::{fmt, io};
+
+// Numbers, each behind a space.
+#[derive(Drop)]
+pub struct Numbers<'a, T>(pub &'a [T]);
+
+impl<T: Display> Display for Numbers<'_, T> {
+    fn fmt<W: fmt::Write>(&self, f: &mut fmt::Formatter<W>) -> fmt::Result {
+        for number in self.0 {
+            write!(f, " {number}")?;
+        }
+        Ok(())
+    }
+}
+
+// Bytes as two digits of base 16, each behind a space.
+#[derive(Drop)]
+pub struct Bytes<'a>(pub &'a [u8]);
+
+impl Display for Bytes<'_> {
+    fn fmt<W: fmt::Write>(&self, f: &mut fmt::Formatter<W>) -> fmt::Result {
+        for byte in self.0 {
+            write!(f, " {byte:02X}")?;
+        }
+        Ok(())
+    }
+}
+
+// A line for each word that has changed.
+pub fn tell_changes(stdout: Stdout, before: &[u64], after: &[u64]) -> io::Result<()> {
+    for (word, (was, is)) in before.iter().zip(after).enumerate() {
+        if was != is {
+            println!(stdout; "word {word} {is}")?;
+        }
+    }
+    Ok(())
+}

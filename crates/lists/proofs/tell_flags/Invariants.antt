@@ -1,8 +1,0 @@
-use Prim.Native.Nat.{◌-◌, ◌≤◌}
-use Rattle.lists.proofs.tell_flags.Given as goal
-
-abbrev pub invariant-loop-shelf : goal.invariant-loop-shelf
-invariant-loop-shelf l = l.shelf ≤ 3
-
-abbrev pub decreases-loop-shelf : goal.decreases-loop-shelf
-decreases-loop-shelf l = 3 - l.shelf
