@@ -161,7 +161,8 @@ fn table_with(slots: [Ticket; Limits::TEAMS], targets: [u64; Tickets::NUMBERS]) 
 }
 
 // All frames, one after another, the table in two locals. An edit's claims and puts that go through, as most frames are, have
-// the fast way; where all tickets are well made at the start they stay so, and no step tests one again.
+// the fast way; where all tickets are well made at the start they stay so, and no step tests one again. The look at the ranks
+// tells the proof that they are accepted.
 fn answer_frames(
     book: &mut [u64],
     tickets: Tickets,
