@@ -4,7 +4,6 @@
 
 ghost use Rattle.std.specs.Prelude.{◌≡◌, true, false, ◌-◌, ◌≤◌, ◌<◌, length};
 ghost use Rattle.words.specs.Words.{words_in_book, team_count};
-ghost use Rattle.legs.specs.Positions.{Accepted};
 ghost use Rattle.tickets.specs.declared.Ticket as Slot;
 ghost use Rattle.tickets.specs.Tickets.{SlotWellMade, slot_well_made};
 ghost use Rattle.tickets.specs.Table.{gathered, ElsewhereSame};
@@ -23,6 +22,7 @@ ghost use Rattle.handlers.specs.Settling.{open_by, NoStep, OpenedAs, StepLeft};
 
 use calls::Aim;
 use frames::{Answer, Kind, Refusal};
+use legs::AcceptedRanks;
 use quick::Tried;
 use replies::Left;
 use tickets::{Ticket, Tickets};
@@ -70,14 +70,14 @@ fn unopened(filled: usize) -> Opened
 
 fn open_edit(
     targets: &mut [u64; Tickets::NUMBERS],
-    ranks: &[u16],
+    ranks: &AcceptedRanks,
     slot: usize,
     kind: Kind,
     part: &[u8],
     out: &mut [u8],
     at: usize,
 ) -> Opened
-    requires { (slot < team_count) × EditFields part.now (kind_number kind) × Accepted ranks.now × RoomAt out.old at }
+    requires { (slot < team_count) × EditFields part.now (kind_number kind) × RoomAt out.old at }
     ensures { (ticket : Slot.Ticket) → OpenedAs (open_settled (gathered targets.old slot ticket) ranks.now (read_edit (kind_number kind) part.now)) targets.old targets.new slot ticket result out.old at out.new }
 {
     match decoder::read_edit(kind, part) {
@@ -99,13 +99,13 @@ fn open_edit(
 
 fn open_view(
     targets: &mut [u64; Tickets::NUMBERS],
-    ranks: &[u16],
+    ranks: &AcceptedRanks,
     slot: usize,
     part: &[u8],
     out: &mut [u8],
     at: usize,
 ) -> Opened
-    requires { (slot < team_count) × ViewFields part.now × Accepted ranks.now × RoomAt out.old at }
+    requires { (slot < team_count) × ViewFields part.now × RoomAt out.old at }
     ensures { (ticket : Slot.Ticket) → OpenedAs (view_settled (gathered targets.old slot ticket) ranks.now (view_read (number16 part.now 2) (view_words_in part.now))) targets.old targets.new slot ticket result out.old at out.new }
 {
     match decoder::read_view(part) {
@@ -144,7 +144,7 @@ fn known_well_made(
 // A team's frame that is no step: refused over a ticket, else an edit or a view that asks for one.
 fn open(
     targets: &mut [u64; Tickets::NUMBERS],
-    ranks: &[u16],
+    ranks: &AcceptedRanks,
     ticket: Ticket,
     frame: &[u8],
     kind: Kind,
@@ -152,7 +152,7 @@ fn open(
     out: &mut [u8],
     at: usize,
 ) -> Opened
-    requires { AimKnown frame.now (Ok (aimed (Aim.Team kind team))) × NoStep (Ok (aimed (Aim.Team kind team))) × Accepted ranks.now × RoomAt out.old at }
+    requires { AimKnown frame.now (Ok (aimed (Aim.Team kind team))) × NoStep (Ok (aimed (Aim.Team kind team))) × RoomAt out.old at }
     ensures { OpenedAs (open_by (gathered targets.old team ticket) ranks.now (part_after_kind frame.now) (kind_number kind)) targets.old targets.new team ticket result out.old at out.new }
 {
     let slot = team as usize;
@@ -175,14 +175,14 @@ fn open(
 pub fn other_frame(
     book: &[u64],
     targets: &mut [u64; Tickets::NUMBERS],
-    ranks: &[u16],
+    ranks: &AcceptedRanks,
     ticket: Ticket,
     frame: &[u8],
     aim: Result<Aim, Refusal>,
     out: &mut [u8],
     at: usize,
 ) -> Opened
-    requires { (length book.now ≡ words_in_book) × AimKnown frame.now (aim_numbered aim) × NoStep (aim_numbered aim) × Accepted ranks.now × RoomAt out.old at }
+    requires { (length book.now ≡ words_in_book) × AimKnown frame.now (aim_numbered aim) × NoStep (aim_numbered aim) × RoomAt out.old at }
     ensures { OpenedAs (settled_by book.now (gathered targets.old (slot_of (aim_numbered aim)) ticket) ranks.now frame.now (aim_numbered aim)).0 targets.old targets.new (slot_of (aim_numbered aim)) ticket result out.old at out.new }
 {
     let aim = match aim {

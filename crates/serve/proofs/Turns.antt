@@ -177,7 +177,7 @@ module _ (before : Memory) (read : Read) (ready : Ready before) (into : ReadInto
 
   next_few : goes_on turn.0.stop ≡ true → next.have < longest_frame
   next_few on =
-      few_kept before.words before.tickets before.ranks buffer have before.out turn.0 turn.1 turn.2 same ready.whole ready.ranked inside
+      few_kept before.words before.tickets before.ranks buffer have before.out turn.0 turn.1 turn.2 same ready.whole inside
       (omega (arith, ready.roomy, into.same_length)) on
 
 -- By whether it goes on.

@@ -3,7 +3,6 @@
 
 ghost use Rattle.std.specs.Prelude.{◌≡◌, ◌+◌, ◌-◌, ◌<◌, ◌≤◌, length, take};
 ghost use Rattle.words.specs.Words.{words_in_book};
-ghost use Rattle.legs.specs.Positions.{Accepted};
 ghost use Rattle.tickets.specs.Table.{table_of};
 ghost use Rattle.frames.specs.declared.Answer.TheVariants.{Refused};
 ghost use Rattle.frames.specs.Answers.{answer_frame, longest_answer, PutAt};
@@ -92,7 +91,7 @@ fn serve_front(
     have: usize,
     out: &mut [u8],
 ) -> Served
-    requires { (have ≤ length buffer.old) × (length book.old ≡ words_in_book) × Accepted ranks.now × Roomy buffer.old out.old }
+    requires { (have ≤ length buffer.old) × (length book.old ≡ words_in_book) × Roomy buffer.old out.old }
     ensures bounds { (result.have ≤ have) × (result.have < longest_frame) × (result.written ≤ length out.old) }
     ensures all { (served_of result, book.new, buffer.new, out.new) ≡ served_after buffer.old have (stream_of book.old (table_of tickets) ranks.now (take have buffer.old) out.old) }
 {
@@ -128,7 +127,7 @@ pub fn after_read(
     got: usize,
     out: &mut [u8],
 ) -> Served
-    requires { (have + got ≤ length buffer.old) × (longest_frame ≤ length buffer.old) × (length book.old ≡ words_in_book) × Accepted ranks.now × Roomy buffer.old out.old }
+    requires { (have + got ≤ length buffer.old) × (longest_frame ≤ length buffer.old) × (length book.old ≡ words_in_book) × Roomy buffer.old out.old }
     ensures bounds { (result.have < longest_frame) × (result.written ≤ length out.old) }
     ensures all { (served_of result, book.new, buffer.new, out.new) ≡ served_by book.old (table_of tickets) ranks.now buffer.old have got out.old }
 {

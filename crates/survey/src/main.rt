@@ -3,7 +3,6 @@
 
 ghost use Rattle.std.specs.Prelude.{◌≡◌, ◌+◌, ◌<◌, ◌≤◌, length, take};
 ghost use Rattle.words.specs.Words.{words_in_book};
-ghost use Rattle.legs.specs.Positions.{Accepted};
 ghost use Rattle.frames.specs.Fields.{longest_frame};
 ghost use Rattle.calls.specs.Stream.{Roomy};
 
@@ -54,7 +53,7 @@ fn serve_some(
     have: usize,
     out: &mut [u8],
 ) -> Served
-    requires { (have < longest_frame) × (longest_frame ≤ length buffer.old) × (length book.old ≡ words_in_book) × Accepted ranks.now × Roomy buffer.old out.old }
+    requires { (have < longest_frame) × (longest_frame ≤ length buffer.old) × (length book.old ≡ words_in_book) × Roomy buffer.old out.old }
     ensures { result.have < longest_frame }
 {
     let got = read_more(stdin, buffer, have);
@@ -72,7 +71,7 @@ fn serve_all(
     buffer: &mut [u8],
     out: &mut [u8],
 )
-    requires { (longest_frame ≤ length buffer.old) × (length book.old ≡ words_in_book) × Accepted ranks.now × Roomy buffer.old out.old }
+    requires { (longest_frame ≤ length buffer.old) × (length book.old ≡ words_in_book) × Roomy buffer.old out.old }
 {
     let mut tickets = Tickets::fresh();
     let mut have: usize = 0;

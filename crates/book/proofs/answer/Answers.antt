@@ -11,7 +11,7 @@ use Rattle.book.proofs.answer.Goals as goal
 pub other_step-requires : goal.other_step-requires
 other_step-requires c =
     let below = subst (λ (t : ℕ). t < team_count) (sym c.requires.2) (slot_below c.args.frame.now (aim_numbered c.args.aim) c.requires.1) in
-    (c.requires.0, below, (λ claims. absurd (false≢true (sym (ap (λ t. t.claims) c.none.ensures) ∙ claims))), (λ known. absurd (false≢true known)), c.requires.4)
+    (c.requires.0, below, (λ claims. absurd (false≢true (sym (ap (λ t. t.claims) c.none.ensures) ∙ claims))), (λ known. absurd (false≢true known)), c.requires.3)
 
 pub returns-then-is_step : goal.returns-then-is_step
 returns-then-is_step c =
@@ -20,7 +20,7 @@ returns-then-is_step c =
 
 pub other_frame-opened-requires : goal.other_frame-opened-requires
 other_frame-opened-requires c =
-    (c.requires.0, c.requires.1, no_step_by (aim_numbered c.args.aim) (sym c.is_step.ensures ∙ c.if-is_step.false), c.requires.3, c.requires.4)
+    (c.requires.0, c.requires.1, no_step_by (aim_numbered c.args.aim) (sym c.is_step.ensures ∙ c.if-is_step.false), c.requires.3)
 
 pub returns-then-opened : goal.returns-then-opened
 returns-then-opened c =

@@ -49,7 +49,7 @@ step_turn c =
       at = loop.at;
       filled = loop.filled;
       goes = loop.invariant.0;
-      bytes = each_byte _ (λ (k : ℕ). omega (arith, c.shared_slice_known-2-1.given k));
+      bytes = each_byte _ (λ (k : ℕ). omega (arith, c.shared_slice_known-1.given k));
       size = step_bytes;
       ahead = (step_inside c).0;
       aim = Ok (Aim.Team step_kind (team_at c));
@@ -100,7 +100,7 @@ other_turn c aim told =
       at = loop.at;
       filled = loop.filled;
       goes = loop.invariant.0;
-      bytes = each_byte _ (λ (k : ℕ). omega (arith, c.shared_slice_known-2-1.given k));
+      bytes = each_byte _ (λ (k : ℕ). omega (arith, c.shared_slice_known-1.given k));
       size = size_at c;
       ahead = other_inside c;
       aim = aim;
@@ -116,13 +116,13 @@ no_step c aim told =
 pub loop-next-init : goal.loop-next-init
 loop-next-init c = (
   record {
-    book = c.requires.0;
+    book = c.requires;
     inside = omega arith;
     fits = omega arith;
     same_length = refl;
     left = record { most = length c.args.input.now; enough = omega arith; is = refl };
     made = λ known. all_well_made_lem _ (sym c.all_well_made-known.ensures ∙ known);
-    accepted = c.requires.1;
+    accepted = rw (← c.ranks.view_is) c.ranks.invariant;
   },
   c.all_quick-quick.ensures,
 )
@@ -235,7 +235,7 @@ slot_of-slot-requires c = slot_known (frame_at c.args.input.now c.loop-next.at (
 pub other_frame-left-requires : goal.other_frame-left-requires
 other_frame-left-requires c =
     let turn = other_turn (goal.at.other_frame-left-requires c).In-Other (aim_numbered c.aim_of-aim.result) c.aim_of-aim.ensures in
-    (turn.goes.book, turn.aim_known, no_step (goal.at.other_frame-left-requires c).In-Other (aim_numbered c.aim_of-aim.result) c.aim_of-aim.ensures, turn.goes.accepted, record { inside = turn.goes.fits; room = turn.ahead.answerable })
+    (turn.goes.book, turn.aim_known, no_step (goal.at.other_frame-left-requires c).In-Other (aim_numbered c.aim_of-aim.result) c.aim_of-aim.ensures, record { inside = turn.goes.fits; room = turn.ahead.answerable })
 
 pub loop-next-smaller-then-left : goal.loop-next-smaller-then-left
 loop-next-smaller-then-left c = let ahead = other_inside (goal.at.loop-next-smaller-then-left c).In-Other in omega (arith, ahead.inside, ahead.least)
