@@ -1,5 +1,5 @@
 -- A turn of the stream, by the way that its frame goes: a step on the fast way, any other step, and any other frame.
-use Rattle.std.specs.Prelude.{Result, Ok, Err}
+use Rattle.std.specs.Prelude.{Option, None, Some, unwrap_or, Result, Ok, Err}
 use native.Mathlib.Omega.{arith}
 use native.Mathlib.Decide.{ℕ_discrete, dec_lt}
 use Prim.Native.Nat.{ℕ, ◌+◌, ◌-◌, ◌<◌, ◌≤◌}
@@ -315,17 +315,17 @@ module _ (turn : Turn) (other : NoStep turn.aim) (quick : List ℕ) (kept : Quic
       frame_as.answered
 
   -- A ticket is opened,
-  pub opened_on : opened.opens ≡ true → team < team_count → (value : ℕ) → value ≡ quick_for turn.known opened.ticket
-      → Goes turn.ranks turn.input turn.long turn.all turn.known turn.words output (table_with (set turn.table.slots team opened.ticket) targets_after) (turn.at + turn.size) opened.filled
-      × QuickSlots turn.known (set turn.table.slots team opened.ticket) (set quick team value)
-  opened_on opens inside value number = (
-    subst (λ (t : ℕ). Goes turn.ranks turn.input turn.long turn.all turn.known turn.words output (table_with (set turn.table.slots t opened.ticket) targets_after) (turn.at + turn.size) opened.filled) (sym slotted)
-        (frame_turned opened.ticket (ap (λ b. cond b opened.ticket (slot_of turn.table (team_of turn))) opens)),
-    quick_stored turn.known turn.table.slots quick team value opened.ticket inside kept number,
+  pub opened_on : (after : Slot.Ticket) → opened.ticket ≡ Some after → team < team_count → (value : ℕ) → value ≡ quick_for turn.known after
+      → Goes turn.ranks turn.input turn.long turn.all turn.known turn.words output (table_with (set turn.table.slots team after) targets_after) (turn.at + turn.size) opened.filled
+      × QuickSlots turn.known (set turn.table.slots team after) (set quick team value)
+  opened_on after opens inside value number = (
+    subst (λ (t : ℕ). Goes turn.ranks turn.input turn.long turn.all turn.known turn.words output (table_with (set turn.table.slots t after) targets_after) (turn.at + turn.size) opened.filled) (sym slotted)
+        (frame_turned after (ap (λ (o : Option Slot.Ticket). unwrap_or o (slot_of turn.table (team_of turn))) opens)),
+    quick_stored turn.known turn.table.slots quick team value after inside kept number,
   )
 
   -- or none is.
-  pub unopened_on : opened.opens ≡ false → Goes turn.ranks turn.input turn.long turn.all turn.known turn.words output (table_with turn.table.slots targets_after) (turn.at + turn.size) opened.filled
+  pub unopened_on : opened.ticket ≡ None → Goes turn.ranks turn.input turn.long turn.all turn.known turn.words output (table_with turn.table.slots targets_after) (turn.at + turn.size) opened.filled
   unopened_on closed =
       subst (λ (l : List Slot.Ticket). Goes turn.ranks turn.input turn.long turn.all turn.known turn.words output (table_with l targets_after) (turn.at + turn.size) opened.filled) (set-get_or turn.table.slots (team_of turn) no_slot)
-      (frame_turned (slot_of turn.table (team_of turn)) (ap (λ b. cond b opened.ticket (slot_of turn.table (team_of turn))) closed))
+      (frame_turned (slot_of turn.table (team_of turn)) (ap (λ (o : Option Slot.Ticket). unwrap_or o (slot_of turn.table (team_of turn))) closed))

@@ -56,17 +56,9 @@ fn answer(
         return other_step(book, targets, ticket, slot, Tried::none(), false, out, 0);
     }
     let opened = other_frame(book, targets, ranks, ticket, frame, aim, out, 0);
-    let filled = opened.filled;
-    if opened.opens {
-        let after = opened.ticket;
-        return Left {
-            ticket: after,
-            filled: filled,
-        };
-    }
     Left {
-        ticket: ticket,
-        filled: filled,
+        ticket: opened.ticket.unwrap_or(ticket),
+        filled: opened.filled,
     }
 }
 
@@ -208,8 +200,7 @@ fn answer_frames(
                 let ticket = slots[slot];
                 let left = other_frame(book, &mut targets, ranks, ticket, frame, aim, out, filled);
                 filled = left.filled;
-                if left.opens {
-                    let after = left.ticket;
+                if let Some(after) = left.ticket {
                     slots[slot] = after;
                     quick[slot] = quick_of(after, known);
                 }

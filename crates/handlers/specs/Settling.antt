@@ -1,5 +1,5 @@
 -- What a frame leaves: the ticket that its slot then says, the words, and its answer at a place of the output.
-use Rattle.std.specs.Prelude.{ℕ, ◌≡◌, true, false, cond, List, eqb, length, Result, Ok, Err}
+use Rattle.std.specs.Prelude.{ℕ, ◌≡◌, true, false, cond, List, eqb, length, unwrap_or, Result, Ok, Err}
 use Rattle.words.specs.Words.{Words}
 use Rattle.legs.specs.Positions.{Ranks}
 use Rattle.tickets.specs.declared.Ticket as Slot
@@ -51,7 +51,7 @@ pub record StepLeft (before : Words) (targets_before : List ℕ) (team : ℕ) (s
 
 -- The slot after a frame that may have opened a ticket.
 abbrev pub slot_after : Opened → Slot.Ticket → Slot.Ticket
-slot_after opened slot = cond opened.opens opened.ticket slot
+slot_after opened slot = unwrap_or opened.ticket slot
 
 -- What such a frame leaves: it changes no word, and no other team's targets.
 pub record OpenedAs (result : Settled) (before after : List ℕ) (team : ℕ) (slot : Slot.Ticket) (opened : Opened) (out : Bytes) (at : ℕ) (output : Bytes) : Type 0 where

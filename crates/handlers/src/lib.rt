@@ -2,7 +2,7 @@
 // a view that opens a ticket, a look, a refusal.
 #![tactic(auto)]
 
-ghost use Rattle.std.specs.Prelude.{◌≡◌, true, false, ◌-◌, ◌≤◌, ◌<◌, length};
+ghost use Rattle.std.specs.Prelude.{◌≡◌, true, None, ◌-◌, ◌≤◌, ◌<◌, length};
 ghost use Rattle.words.specs.Words.{words_in_book, team_count};
 ghost use Rattle.legs.specs.Positions.{Accepted};
 ghost use Rattle.tickets.specs.declared.Ticket as Slot;
@@ -28,11 +28,10 @@ use replies::Left;
 use tickets::{Ticket, Tickets};
 use words::Limits;
 
-// What an edit or a view that asks for a ticket leaves: whether it opens one, that ticket, and the place behind the answer.
+// What an edit or a view that asks for a ticket leaves: the ticket that it opens, if it does, and the place behind the answer.
 #[derive(Clone, Copy)]
 pub struct Opened {
-    pub opens: bool,
-    pub ticket: Ticket,
+    pub ticket: Option<Ticket>,
     pub filled: usize,
 }
 
@@ -59,11 +58,10 @@ pub fn put_refused(out: &mut [u8], at: usize, refusal: Refusal) -> usize
 
 // No ticket is opened, and the place behind the answer is known.
 fn unopened(filled: usize) -> Opened
-    ensures { (result.opens ≡ false) × (result.filled ≡ filled) }
+    ensures { (result.ticket ≡ None) × (result.filled ≡ filled) }
 {
     Opened {
-        opens: false,
-        ticket: Ticket::none(),
+        ticket: None,
         filled: filled,
     }
 }
@@ -85,8 +83,7 @@ fn open_edit(
             let n = opening::open(targets, ranks, slot, edit);
             let filled = replies::put(out, at, Answer::Standing(n));
             Opened {
-                opens: true,
-                ticket: Ticket::edit(n),
+                ticket: Some(Ticket::edit(n)),
                 filled: filled,
             }
         }
@@ -113,8 +110,7 @@ fn open_view(
             opening::open_view(targets, ranks, slot, view);
             let filled = replies::put(out, at, Answer::Standing(view.n));
             Opened {
-                opens: true,
-                ticket: Ticket::view(view.n),
+                ticket: Some(Ticket::view(view.n)),
                 filled: filled,
             }
         }

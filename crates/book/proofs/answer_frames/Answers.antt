@@ -237,16 +237,16 @@ other_frame-left-requires c =
     let turn = other_turn (goal.at.other_frame-left-requires c).In-Other (aim_numbered c.aim_of-aim.result) c.aim_of-aim.ensures in
     (turn.goes.book, turn.aim_known, no_step (goal.at.other_frame-left-requires c).In-Other (aim_numbered c.aim_of-aim.result) c.aim_of-aim.ensures, turn.goes.accepted, record { inside = turn.goes.fits; room = turn.ahead.answerable })
 
-pub loop-next-smaller-then-left : goal.loop-next-smaller-then-left
-loop-next-smaller-then-left c = let ahead = other_inside (goal.at.loop-next-smaller-then-left c).In-Other in omega (arith, ahead.inside, ahead.least)
+pub loop-next-smaller-in-Some : goal.loop-next-smaller-in-Some
+loop-next-smaller-in-Some c = let ahead = other_inside (goal.at.loop-next-smaller-in-Some c).In-Other in omega (arith, ahead.inside, ahead.least)
 
-pub loop-next-preserved-then-left : goal.loop-next-preserved-then-left
-loop-next-preserved-then-left c =
+pub loop-next-preserved-in-Some : goal.loop-next-preserved-in-Some
+loop-next-preserved-in-Some c =
     let slot = c.slot_of-slot in
     let frame = c.other_frame-left in
     let loop = c.loop-next in
-    opened_on (other_turn (goal.at.loop-next-preserved-then-left c).In-Other (aim_numbered c.aim_of-aim.result) c.aim_of-aim.ensures) (no_step (goal.at.loop-next-preserved-then-left c).In-Other (aim_numbered c.aim_of-aim.result) c.aim_of-aim.ensures) loop.quick loop.invariant.1 slot.result slot.ensures.0 frame.result _ _ frame.ensures
-    c.if-left.true slot.ensures.1 _ c.quick_of-then-left.ensures
+    opened_on (other_turn (goal.at.loop-next-preserved-in-Some c).In-Other (aim_numbered c.aim_of-aim.result) c.aim_of-aim.ensures) (no_step (goal.at.loop-next-preserved-in-Some c).In-Other (aim_numbered c.aim_of-aim.result) c.aim_of-aim.ensures) loop.quick loop.invariant.1 slot.result slot.ensures.0 frame.result _ _ frame.ensures
+    c.in-Some.after c.in-Some.is slot.ensures.1 _ c.quick_of-in-Some.ensures
 
 pub loop-next-smaller : goal.loop-next-smaller
 loop-next-smaller c = let ahead = other_inside (goal.at.loop-next-smaller c).In-Other in omega (arith, ahead.inside, ahead.least)
@@ -256,4 +256,4 @@ loop-next-preserved c =
     let slot = c.slot_of-slot in
     let frame = c.other_frame-left in
     let loop = c.loop-next in
-    (unopened_on (other_turn (goal.at.loop-next-preserved c).In-Other (aim_numbered c.aim_of-aim.result) c.aim_of-aim.ensures) (no_step (goal.at.loop-next-preserved c).In-Other (aim_numbered c.aim_of-aim.result) c.aim_of-aim.ensures) loop.quick loop.invariant.1 slot.result slot.ensures.0 frame.result _ _ frame.ensures c.if-left.false, loop.invariant.1)
+    (unopened_on (other_turn (goal.at.loop-next-preserved c).In-Other (aim_numbered c.aim_of-aim.result) c.aim_of-aim.ensures) (no_step (goal.at.loop-next-preserved c).In-Other (aim_numbered c.aim_of-aim.result) c.aim_of-aim.ensures) loop.quick loop.invariant.1 slot.result slot.ensures.0 frame.result _ _ frame.ensures c.in_default.is, loop.invariant.1)
