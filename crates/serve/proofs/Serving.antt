@@ -19,6 +19,7 @@ use Rattle.calls.specs.Stream.{Streamed, stream_of, Roomy}
 use Rattle.calls.specs.Pieces.{goes_on}
 use Rattle.calls.proofs.StreamRun.{stream_is_run}
 use Rattle.calls.proofs.StreamPieces.{room_left, room_suffices}
+use Rattle.replies.specs.Leaving.{RoomAt}
 use Rattle.serve.specs.Serving.{Served, shifted, served, refused_behind, end_of, ended_by, served_after, served_by}
 
 -- Refused 3 as it is put.
@@ -98,12 +99,12 @@ module _ (words : Words) (tickets : Tickets) (ranks : Ranks) (buffer : Bytes) (h
     front_roomy = omega (arith, roomy, front_long, inside)
 
     -- There is room for Refused 3,
-    pub room_to_refuse : (answered.written ≤ length filled) × (longest_answer ≤ length filled - answered.written)
+    pub room_to_refuse : RoomAt filled answered.written
     room_to_refuse =
         let enough : longest_answer ≤ length filled - answered.written =
         subst (λ (result : Streamed × Words × Bytes). longest_answer ≤ length result.2 - result.0.written) (sym same)
         (refusal_room words tickets ranks (take have buffer) out whole accepted front_roomy) in
-        (omega (arith, enough), enough)
+        record { inside = omega (arith, enough); room = enough }
 
     pub refused_inside : {place : ℕ} {output : Bytes} → PutAt filled answered.written (answer_frame (Refused 3)) place output → place ≤ length out
     refused_inside put =

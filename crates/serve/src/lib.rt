@@ -5,15 +5,15 @@ ghost use Rattle.std.specs.Prelude.{◌≡◌, ◌+◌, ◌-◌, ◌<◌, ◌≤
 ghost use Rattle.words.specs.Words.{words_in_book};
 ghost use Rattle.legs.specs.Positions.{Accepted};
 ghost use Rattle.tickets.specs.Table.{table_of};
-ghost use Rattle.frames.specs.declared.Answer.TheVariants.{Refused};
-ghost use Rattle.frames.specs.Answers.{answer_frame, longest_answer, PutAt};
+ghost use Rattle.frames.specs.Answers.{longest_answer};
 ghost use Rattle.frames.specs.Fields.{longest_frame};
 ghost use Rattle.calls.specs.Stream.{stream_of, streamed_of, Roomy};
 ghost use Rattle.calls.specs.Pieces.{goes_on};
 ghost use Rattle.serve.specs.Serving.{shifted, end_of, served_of, served_after, served_by};
 
 use calls::{Stop, Streamed};
-use frames::{Answer, Refusal};
+use frames::Refusal;
+use handlers::put_refused;
 use tickets::Tickets;
 
 // What came of one read: the tickets, how many bytes of a frame not yet whole stand at the front, how many bytes to
@@ -26,22 +26,13 @@ pub struct Served {
     pub on: bool,
 }
 
-// Refused 3 behind the first `at` bytes of the output, for a torn last frame or a length field above 62; how many bytes
-// there are with it.
-fn put_torn(out: &mut [u8], at: usize) -> usize
-    requires { (at ≤ length out.old) × (longest_answer ≤ length out.old - at) }
-    ensures { PutAt out.old at (answer_frame (Refused 3)) result out.new }
-{
-    replies::put(out, at, Answer::Refused(Refusal::Torn.number()))
-}
-
-// What is written at the end of the input, where `have` bytes are kept.
+// What is written at the end of the input, where `have` bytes are kept: Refused 3 for a torn last frame.
 fn at_end(out: &mut [u8], have: usize) -> usize
     requires { longest_answer ≤ length out.old }
     ensures { ((result, out.new) ≡ end_of out.old have) × (result ≤ length out.old) }
 {
     if 0 < have {
-        return put_torn(out, 0);
+        return put_refused(out, 0, Refusal::Torn);
     }
     0
 }
@@ -100,7 +91,7 @@ fn serve_front(
     let next = answered.tickets;
     let stop = answered.stop;
     if !goes_on(stop) {
-        let refused = put_torn(out, answered.written);
+        let refused = put_refused(out, answered.written, Refusal::Torn);
         return Served {
             tickets: next,
             have: 0,
