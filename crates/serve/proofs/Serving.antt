@@ -1,4 +1,5 @@
 -- What is done after a read, by whether it brought something and whether the program goes on.
+use Rattle.std.specs.Prelude.{Some}
 use Prim.Native.Nat.{ℕ, ◌+◌, ◌-◌, ◌<◌, ◌≤◌}
 use native.Mathlib.Omega.{arith}
 use mathlib.Core.Path.{◌≡◌, sym, ap, subst, ◌∙◌}
@@ -63,7 +64,7 @@ refusal_room words tickets ranks input out whole accepted roomy =
 -- By what a stream over the first bytes left.
 module _ (words : Words) (tickets : Tickets) (ranks : Ranks) (buffer : Bytes) (have : ℕ) (out : Bytes) (answered : Streamed) (after : Words) (filled : Bytes) (same : (answered, after, filled) ≡ stream_of words tickets ranks (take have buffer) out) where
   abbrev onward : Served × Words × Bytes × Bytes
-  onward = (served answered.tickets (have - answered.consumed) answered.written true, after, shifted buffer answered.consumed have, filled)
+  onward = (served answered.tickets (Some (have - answered.consumed)) answered.written, after, shifted buffer answered.consumed have, filled)
 
   abbrev halted : Served × Words × Bytes × Bytes
   halted = ended_by after answered.tickets buffer (refused_behind filled answered.written)
@@ -84,10 +85,10 @@ module _ (words : Words) (tickets : Tickets) (ranks : Ranks) (buffer : Bytes) (h
   pub serves_on :
       (left : ℕ) (front : Bytes) → left ≡ have - answered.consumed → front ≡ shifted buffer answered.consumed have
       → goes_on answered.stop ≡ true
-      → (served answered.tickets left answered.written true, after, front, filled) ≡ served_after buffer have (stream_of words tickets ranks (take have buffer) out)
+      → (served answered.tickets (Some left) answered.written, after, front, filled) ≡ served_after buffer have (stream_of words tickets ranks (take have buffer) out)
   serves_on left front many moved goes =
-      ap (λ (n : ℕ). (served answered.tickets n answered.written true, after, front, filled)) many
-      ∙ ap (λ (bytes : Bytes). (served answered.tickets (have - answered.consumed) answered.written true, after, bytes, filled)) moved
+      ap (λ (n : ℕ). (served answered.tickets (Some n) answered.written, after, front, filled)) many
+      ∙ ap (λ (bytes : Bytes). (served answered.tickets (Some (have - answered.consumed)) answered.written, after, bytes, filled)) moved
       ∙ ap (λ (on : Bool). cond on onward halted) (sym goes)
       ∙ ap (served_after buffer have) same
 

@@ -1,7 +1,7 @@
 // What survey does between a read and a write.
 #![tactic(auto)]
 
-ghost use Rattle.std.specs.Prelude.{◌≡◌, ◌+◌, ◌-◌, ◌<◌, ◌≤◌, length, take};
+ghost use Rattle.std.specs.Prelude.{◌≡◌, ◌+◌, ◌-◌, ◌<◌, ◌≤◌, length, take, IfSome};
 ghost use Rattle.words.specs.Words.{words_in_book};
 ghost use Rattle.legs.specs.Positions.{Accepted};
 ghost use Rattle.tickets.specs.Table.{table_of};
@@ -16,14 +16,13 @@ use frames::Refusal;
 use handlers::put_refused;
 use tickets::Tickets;
 
-// What came of one read: the tickets, how many bytes of a frame not yet whole stand at the front, how many bytes to
-// write, and whether to go on.
+// What came of one read: the tickets, how many bytes of a frame not yet whole stand at the front, if the program goes on,
+// and how many bytes to write.
 #[derive(Clone, Copy)]
 pub struct Served {
     pub tickets: Tickets,
-    pub have: usize,
+    pub have: Option<usize>,
     pub written: usize,
-    pub on: bool,
 }
 
 // What is written at the end of the input, where `have` bytes are kept: Refused 3 for a torn last frame.
@@ -84,7 +83,7 @@ fn serve_front(
     out: &mut [u8],
 ) -> Served
     requires { (have ≤ length buffer.old) × (length book.old ≡ words_in_book) × Accepted ranks.now × Roomy buffer.old out.old }
-    ensures bounds { (result.have ≤ have) × (result.have < longest_frame) × (result.written ≤ length out.old) }
+    ensures bounds { IfSome result.have (λ kept. kept < longest_frame) × (result.written ≤ length out.old) }
     ensures all { (served_of result, book.new, buffer.new, out.new) ≡ served_after buffer.old have (stream_of book.old (table_of tickets) ranks.now (take have buffer.old) out.old) }
 {
     let answered = stream_front(book, tickets, ranks, buffer, have, out);
@@ -94,17 +93,15 @@ fn serve_front(
         let refused = put_refused(out, answered.written, Refusal::Torn);
         return Served {
             tickets: next,
-            have: 0,
+            have: None,
             written: refused,
-            on: false,
         };
     }
     let left = shift(buffer, answered.consumed, have);
     Served {
         tickets: next,
-        have: left,
+        have: Some(left),
         written: answered.written,
-        on: true,
     }
 }
 
@@ -120,16 +117,15 @@ pub fn after_read(
     out: &mut [u8],
 ) -> Served
     requires { (have + got ≤ length buffer.old) × (longest_frame ≤ length buffer.old) × (length book.old ≡ words_in_book) × Accepted ranks.now × Roomy buffer.old out.old }
-    ensures bounds { (result.have < longest_frame) × (result.written ≤ length out.old) }
+    ensures bounds { IfSome result.have (λ kept. kept < longest_frame) × (result.written ≤ length out.old) }
     ensures all { (served_of result, book.new, buffer.new, out.new) ≡ served_by book.old (table_of tickets) ranks.now buffer.old have got out.old }
 {
     if got == 0 {
         let count = at_end(out, have);
         return Served {
             tickets: tickets,
-            have: 0,
+            have: None,
             written: count,
-            on: false,
         };
     }
     serve_front(book, tickets, ranks, buffer, have + got, out)
