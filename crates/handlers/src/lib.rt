@@ -2,7 +2,7 @@
 // a view that opens a ticket, a look, a refusal.
 #![tactic(auto)]
 
-ghost use Rattle.std.specs.Prelude.{◌≡◌, true, None, ◌-◌, ◌≤◌, ◌<◌, length};
+ghost use Rattle.std.specs.Prelude.{◌≡◌, ℕ, true, None, ◌-◌, ◌≤◌, ◌<◌, length};
 ghost use Rattle.words.specs.Words.{words_in_book, team_count};
 ghost use Rattle.legs.specs.Positions.{Accepted};
 ghost use Rattle.tickets.specs.declared.Ticket as Slot;
@@ -19,6 +19,7 @@ ghost use Rattle.frames.specs.declared.Answer.TheVariants as Answer;
 ghost use Rattle.calls.specs.Way.{aimed, aim_numbered, AimKnown, slot_of, look_answer, open_settled, view_settled, EditFields, settled_by};
 ghost use Rattle.replies.specs.Leaving.{RoomAt};
 ghost use Rattle.claiming.specs.Missing.{MissesIn};
+ghost use Rattle.quick.specs.declared.Tried.TheVariants.{Missed};
 ghost use Rattle.handlers.specs.Settling.{open_by, NoStep, OpenedAs, StepLeft};
 
 use calls::Aim;
@@ -219,11 +220,11 @@ pub fn other_step(
     out: &mut [u8],
     at: usize,
 ) -> Left
-    requires { (length book.old ≡ words_in_book) × (slot < team_count) × (tried.claims ≡ true → MissesIn targets.old slot ticket out.old at) × (known ≡ true → SlotWellMade (gathered targets.old slot ticket)) × RoomAt out.old at }
+    requires { (length book.old ≡ words_in_book) × (slot < team_count) × ((found : ℕ) → tried ≡ Missed found → MissesIn targets.old slot ticket out.old at) × (known ≡ true → SlotWellMade (gathered targets.old slot ticket)) × RoomAt out.old at }
     ensures { StepLeft book.old targets.old slot ticket tried result.ticket book.new targets.new out.old at result.filled out.new }
 {
-    if tried.claims {
-        return claiming::missed(targets, ticket, slot, tried.found, out, at);
+    if let Tried::Missed(found) = tried {
+        return claiming::missed(targets, ticket, slot, found, out, at);
     }
     if !ticket.stands() {
         return refuse(ticket, Refusal::NoTicket, out, at);

@@ -6,33 +6,20 @@ ghost use Rattle.words.specs.Words.{Words, words_in_book, team_count};
 ghost use Rattle.tickets.specs.Steps.{swap_tried};
 ghost use Rattle.tickets.specs.Table.{gathered};
 ghost use Rattle.replies.specs.Leaving.{RoomAt, Answered};
-ghost use Rattle.quick.specs.Quick.{Quick, is_plain, quick_swaps, untried, quick_tried, advanced_by, AdvancesBy, told_answer};
+ghost use Rattle.quick.specs.Quick.{Quick, is_plain, quick_swaps, quick_tried, advanced_by, AdvancesBy, told_answer};
 
 use encoder::AnswerKind;
 use frames::Frame;
 use frames::numbers::Bits;
 use tickets::{Kind, SwapTried, Ticket, Tickets};
 
-// What came of the next swap of an edit on the fast way: whether it was a claim, what it found, and whether it went through.
-// One that did not was a claim that missed, or none was tried.
+// What came of the next swap of an edit on the fast way: it went through, told with whether it was a claim; or it was a claim
+// that missed, told with what it found; or none was tried.
 #[derive(Clone, Copy)]
-pub struct Tried {
-    pub claims: bool,
-    pub found: u64,
-    pub went: bool,
-}
-
-impl Tried {
-    // No swap was tried.
-    pub fn none() -> Tried
-        ensures { result ≡ untried }
-    {
-        Tried {
-            claims: false,
-            found: 0,
-            went: false,
-        }
-    }
+pub enum Tried {
+    Went(bool),
+    Missed(u64),
+    Untried,
 }
 
 // One of two values, by a test.
@@ -95,7 +82,7 @@ pub fn try_quick(
     ensures { (result, book.new) ≡ quick_tried book.old targets.now slot ticket quick }
 {
     if quick <= ticket.done {
-        return Tried::none();
+        return Tried::Untried;
     }
     let claims = ticket.claimed < ticket.n;
     let swap = swap_at(targets, slot, ticket);
@@ -103,17 +90,12 @@ pub fn try_quick(
     let report = words::conditional_swap(book, at, swap.expected, swap.desired);
     let found = report.found;
     if found == swap.expected {
-        return Tried {
-            claims: claims,
-            found: found,
-            went: true,
-        };
+        return Tried::Went(claims);
     }
-    Tried {
-        claims: claims,
-        found: found,
-        went: words::is_held(swap.expected),
+    if words::is_held(swap.expected) {
+        return Tried::Went(claims);
     }
+    Tried::Missed(found)
 }
 
 // The ticket whose swap went through.
