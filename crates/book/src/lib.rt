@@ -53,20 +53,12 @@ fn answer(
     ensures others { ElsewhereSame targets.old targets.new slot }
 {
     if is_step(aim) {
-        return other_step(book, targets, ticket, slot, Tried::none(), false, out, 0);
+        return other_step(book, targets, ticket, slot, Tried::Untried, false, out, 0);
     }
     let opened = other_frame(book, targets, ranks, ticket, frame, aim, out, 0);
-    let filled = opened.filled;
-    if opened.opens {
-        let after = opened.ticket;
-        return Left {
-            ticket: after,
-            filled: filled,
-        };
-    }
     Left {
-        ticket: ticket,
-        filled: filled,
+        ticket: opened.ticket.unwrap_or(ticket),
+        filled: opened.filled,
     }
 }
 
@@ -192,10 +184,10 @@ fn answer_frames(
                 let slot = team as usize;
                 let tried = quick::try_quick(book, &targets, slots[slot], slot, quick[slot]);
                 let ticket = slots[slot];
-                if tried.went {
-                    let after = quick::advanced(ticket, tried.claims);
+                if let Tried::Went(claims) = tried {
+                    let after = quick::advanced(ticket, claims);
                     slots[slot] = after;
-                    filled = quick::put_told(out, filled, tried.claims, after);
+                    filled = quick::put_told(out, filled, claims, after);
                     continue;
                 }
                 let left = other_step(book, &mut targets, ticket, slot, tried, known, out, filled);
@@ -212,8 +204,7 @@ fn answer_frames(
                 let ticket = slots[slot];
                 let left = other_frame(book, &mut targets, ranks, ticket, frame, aim, out, filled);
                 filled = left.filled;
-                if left.opens {
-                    let after = left.ticket;
+                if let Some(after) = left.ticket {
                     slots[slot] = after;
                     quick[slot] = quick_of(after, known);
                 }

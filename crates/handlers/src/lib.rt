@@ -2,7 +2,7 @@
 // a view that opens a ticket, a look, a refusal.
 #![tactic(auto)]
 
-ghost use Rattle.std.specs.Prelude.{◌≡◌, true, false, ◌-◌, ◌≤◌, ◌<◌, length};
+ghost use Rattle.std.specs.Prelude.{◌≡◌, ℕ, true, None, ◌-◌, ◌≤◌, ◌<◌, length};
 ghost use Rattle.words.specs.Words.{words_in_book, team_count};
 ghost use Rattle.tickets.specs.declared.Ticket as Slot;
 ghost use Rattle.tickets.specs.Tickets.{SlotWellMade, slot_well_made};
@@ -18,6 +18,7 @@ ghost use Rattle.frames.specs.declared.Answer.TheVariants as Answer;
 ghost use Rattle.calls.specs.Way.{aimed, aim_numbered, AimKnown, slot_of, look_answer, open_settled, view_settled, EditFields, settled_by};
 ghost use Rattle.replies.specs.Leaving.{RoomAt};
 ghost use Rattle.claiming.specs.Missing.{MissesIn};
+ghost use Rattle.quick.specs.declared.Tried.TheVariants.{Missed};
 ghost use Rattle.handlers.specs.Settling.{open_by, NoStep, OpenedAs, StepLeft};
 
 use calls::Aim;
@@ -28,11 +29,10 @@ use replies::Left;
 use tickets::{Ticket, Tickets};
 use words::Limits;
 
-// What an edit or a view that asks for a ticket leaves: whether it opens one, that ticket, and the place behind the answer.
+// What an edit or a view that asks for a ticket leaves: the ticket that it opens, if it does, and the place behind the answer.
 #[derive(Clone, Copy)]
 pub struct Opened {
-    pub opens: bool,
-    pub ticket: Ticket,
+    pub ticket: Option<Ticket>,
     pub filled: usize,
 }
 
@@ -59,11 +59,10 @@ pub fn put_refused(out: &mut [u8], at: usize, refusal: Refusal) -> usize
 
 // No ticket is opened, and the place behind the answer is known.
 fn unopened(filled: usize) -> Opened
-    ensures { (result.opens ≡ false) × (result.filled ≡ filled) }
+    ensures { (result.ticket ≡ None) × (result.filled ≡ filled) }
 {
     Opened {
-        opens: false,
-        ticket: Ticket::none(),
+        ticket: None,
         filled: filled,
     }
 }
@@ -85,8 +84,7 @@ fn open_edit(
             let n = opening::open(targets, ranks, slot, edit);
             let filled = replies::put(out, at, Answer::Standing(n));
             Opened {
-                opens: true,
-                ticket: Ticket::edit(n),
+                ticket: Some(Ticket::edit(n)),
                 filled: filled,
             }
         }
@@ -113,8 +111,7 @@ fn open_view(
             opening::open_view(targets, ranks, slot, view);
             let filled = replies::put(out, at, Answer::Standing(view.n));
             Opened {
-                opens: true,
-                ticket: Ticket::view(view.n),
+                ticket: Some(Ticket::view(view.n)),
                 filled: filled,
             }
         }
@@ -223,11 +220,11 @@ pub fn other_step(
     out: &mut [u8],
     at: usize,
 ) -> Left
-    requires { (length book.old ≡ words_in_book) × (slot < team_count) × (tried.claims ≡ true → MissesIn targets.old slot ticket out.old at) × (known ≡ true → SlotWellMade (gathered targets.old slot ticket)) × RoomAt out.old at }
+    requires { (length book.old ≡ words_in_book) × (slot < team_count) × ((found : ℕ) → tried ≡ Missed found → MissesIn targets.old slot ticket out.old at) × (known ≡ true → SlotWellMade (gathered targets.old slot ticket)) × RoomAt out.old at }
     ensures { StepLeft book.old targets.old slot ticket tried result.ticket book.new targets.new out.old at result.filled out.new }
 {
-    if tried.claims {
-        return claiming::missed(targets, ticket, slot, tried.found, out, at);
+    if let Tried::Missed(found) = tried {
+        return claiming::missed(targets, ticket, slot, found, out, at);
     }
     if !ticket.stands() {
         return refuse(ticket, Refusal::NoTicket, out, at);

@@ -1,4 +1,5 @@
 -- What is done after a read, by whether it brought something and whether the program goes on.
+use Rattle.std.specs.Prelude.{Some}
 use Prim.Native.Nat.{ℕ, ◌+◌, ◌-◌, ◌<◌, ◌≤◌}
 use native.Mathlib.Omega.{arith}
 use mathlib.Core.Path.{◌≡◌, refl, sym, ap, subst, ◌∙◌}
@@ -19,6 +20,7 @@ use Rattle.calls.specs.Pieces.{goes_on}
 use Rattle.calls.proofs.Streaming.{stream_no_ranks}
 use Rattle.calls.proofs.StreamRun.{stream_is_run}
 use Rattle.calls.proofs.StreamPieces.{room_left, room_suffices}
+use Rattle.replies.specs.Leaving.{RoomAt}
 use Rattle.serve.specs.Serving.{Served, shifted, served, refused_behind, end_of, ended_by, served_after, served_by}
 
 -- Refused 3 as it is put.
@@ -82,7 +84,7 @@ stops_or_few words tickets ranks input out whole roomy = go (is_permutation rank
 -- By what a stream over the first bytes left.
 module _ (words : Words) (tickets : Tickets) (ranks : Ranks) (buffer : Bytes) (have : ℕ) (out : Bytes) (answered : Streamed) (after : Words) (filled : Bytes) (same : (answered, after, filled) ≡ stream_of words tickets ranks (take have buffer) out) where
   abbrev onward : Served × Words × Bytes × Bytes
-  onward = (served answered.tickets (have - answered.consumed) answered.written true, after, shifted buffer answered.consumed have, filled)
+  onward = (served answered.tickets (Some (have - answered.consumed)) answered.written, after, shifted buffer answered.consumed have, filled)
 
   abbrev halted : Served × Words × Bytes × Bytes
   halted = ended_by after answered.tickets buffer (refused_behind filled answered.written)
@@ -103,10 +105,10 @@ module _ (words : Words) (tickets : Tickets) (ranks : Ranks) (buffer : Bytes) (h
   pub serves_on :
       (left : ℕ) (front : Bytes) → left ≡ have - answered.consumed → front ≡ shifted buffer answered.consumed have
       → goes_on answered.stop ≡ true
-      → (served answered.tickets left answered.written true, after, front, filled) ≡ served_after buffer have (stream_of words tickets ranks (take have buffer) out)
+      → (served answered.tickets (Some left) answered.written, after, front, filled) ≡ served_after buffer have (stream_of words tickets ranks (take have buffer) out)
   serves_on left front many moved goes =
-      ap (λ (n : ℕ). (served answered.tickets n answered.written true, after, front, filled)) many
-      ∙ ap (λ (bytes : Bytes). (served answered.tickets (have - answered.consumed) answered.written true, after, bytes, filled)) moved
+      ap (λ (n : ℕ). (served answered.tickets (Some n) answered.written, after, front, filled)) many
+      ∙ ap (λ (bytes : Bytes). (served answered.tickets (Some (have - answered.consumed)) answered.written, after, bytes, filled)) moved
       ∙ ap (λ (on : Bool). cond on onward halted) (sym goes)
       ∙ ap (served_after buffer have) same
 
@@ -121,8 +123,8 @@ module _ (words : Words) (tickets : Tickets) (ranks : Ranks) (buffer : Bytes) (h
     kept = subst (RoomKept out) (sym same) (room_kept words tickets ranks (take have buffer) out whole front_roomy)
 
     -- There is room for Refused 3,
-    pub room_to_refuse : (answered.written ≤ length filled) × (longest_answer ≤ length filled - answered.written)
-    room_to_refuse = (omega (arith, kept.1), kept.1)
+    pub room_to_refuse : RoomAt filled answered.written
+    room_to_refuse = record { inside = omega (arith, kept.1); room = kept.1 }
 
     pub refused_inside : {place : ℕ} {output : Bytes} → PutAt filled answered.written (answer_frame (Refused 3)) place output → place ≤ length out
     refused_inside put = omega (arith, put.0.1, kept.0)

@@ -1,7 +1,7 @@
 // The program: frames from standard input, answers to standard output.
 #![tactic(auto)]
 
-ghost use Rattle.std.specs.Prelude.{◌≡◌, ◌+◌, ◌<◌, ◌≤◌, length, take};
+ghost use Rattle.std.specs.Prelude.{◌≡◌, ◌+◌, ◌<◌, ◌≤◌, length, take, IfSome};
 ghost use Rattle.words.specs.Words.{words_in_book};
 ghost use Rattle.frames.specs.Fields.{longest_frame};
 ghost use Rattle.calls.specs.Stream.{Roomy};
@@ -54,7 +54,7 @@ fn serve_some(
     out: &mut [u8],
 ) -> Served
     requires { (have < longest_frame) × (longest_frame ≤ length buffer.old) × (length book.old ≡ words_in_book) × Roomy buffer.old out.old }
-    ensures { result.have < longest_frame }
+    ensures { IfSome result.have (λ kept. kept < longest_frame) }
 {
     let got = read_more(stdin, buffer, have);
     let served = serve::after_read(book, tickets, ranks, buffer, have, got, out);
@@ -77,11 +77,11 @@ fn serve_all(
     let mut have: usize = 0;
     for _ in 0..u64::MAX {
         let served = serve_some(stdin, stdout, book, tickets, ranks, buffer, have, out);
-        if !served.on {
+        let Some(kept) = served.have else {
             return;
-        }
+        };
         tickets = served.tickets;
-        have = served.have;
+        have = kept;
     }
 }
 
