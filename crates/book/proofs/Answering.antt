@@ -24,7 +24,8 @@ use Rattle.calls.specs.Call.{Reply, call_of}
 use Rattle.calls.specs.Way.{Settled, aim_of, slot_of, settled_by}
 use Rattle.calls.proofs.Sending.{call_by}
 use Rattle.quick.specs.declared.Tried.{Tried}
-use Rattle.quick.specs.Quick.{untried}
+use Rattle.quick.specs.declared.Tried.TheVariants.{Untried}
+use Rattle.quick.proofs.Trying.{none_missed}
 use Rattle.handlers.specs.declared.Opened.{Opened}
 use Rattle.handlers.specs.Settling.{step_by, NoStep, SettledAs, StepLeft, slot_after, OpenedAs}
 use Rattle.handlers.proofs.Cases.{step_by_lem, no_word}
@@ -46,13 +47,13 @@ step_settles words ticket ranks frame (Ok (Aim.Team kind team)) step =
 module _ (words : Words) (targets : List ℕ) (ranks : Ranks) (frame : Bytes) (aim : Result Aim ℕ) (slot : ℕ) (slotted : slot ≡ slot_of aim) (ticket : Slot.Ticket) where
   -- A step, none of which is tried on the fast way.
   pub step_answered : (tried : Tried) (left : Slot.Ticket) (after : Words) (targets_after : List ℕ) (out : Bytes) (at place : ℕ) (output : Bytes) → is_step_by aim ≡ true
-      → tried ≡ untried
+      → tried ≡ Untried
       → StepLeft words targets slot ticket tried left after targets_after out at place output
       → SettledAs (settled_by words (gathered targets slot ticket) ranks frame aim) targets_after slot left after out at place output
   step_answered tried left after targets_after out at place output step none by =
       subst (λ (r : Settled × Words). SettledAs r targets_after slot left after out at place output)
       (ap (step_by words (gathered targets slot ticket)) slotted ∙ step_settles words (gathered targets slot ticket) ranks frame aim step)
-      (by.made (ap (λ (t : Tried). t.claims) none))
+      (by.made (λ found missed. none_missed found (sym none ∙ missed)))
 
   -- Any other frame.
   frame_there : (opened : Opened) (targets_after : List ℕ) (out : Bytes) (at : ℕ) (output : Bytes)

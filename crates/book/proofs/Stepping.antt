@@ -1,5 +1,5 @@
 -- A turn of the stream, by the way that its frame goes: a step on the fast way, any other step, and any other frame.
-use Rattle.std.specs.Prelude.{Result, Ok, Err}
+use Rattle.std.specs.Prelude.{Option, None, Some, unwrap_or, Result, Ok, Err}
 use native.Mathlib.Omega.{arith}
 use native.Mathlib.Decide.{ℕ_discrete, dec_lt}
 use Prim.Native.Nat.{ℕ, ◌+◌, ◌-◌, ◌<◌, ◌≤◌}
@@ -35,6 +35,8 @@ use Rattle.dispatch.specs.declared.Ahead.{Ahead}
 use Rattle.dispatch.specs.Ahead.{frame_at, ahead_by, ahead_of}
 use Rattle.replies.specs.Leaving.{LeftBy}
 use Rattle.quick.specs.declared.Tried.{Tried}
+use Rattle.quick.specs.declared.Tried.TheVariants.{Went, Missed, Untried}
+use Rattle.quick.proofs.Trying.{none_missed}
 use Rattle.quick.proofs.Advancing.{quick_by_count, quick_kept, quick_says, quick_is_step, quick_missed}
 use Rattle.quick.specs.Quick.{Quick, is_plain, quick_if, quick_swaps, quick_tried, advanced_by, told_answer, TriedSays}
 use Rattle.handlers.specs.declared.Opened.{Opened}
@@ -238,21 +240,21 @@ module _ (turn : Turn) (team : ℕ) (is_step_lem : turn.aim ≡ Ok (Aim.Team ste
   says = quick_says turn.words its_targets team its_slot (get_or quick team 0) tried after fast_at is
 
   -- It went through: the loop goes on, and the number beside the its-slot stays.
-  pub went_on : tried.went ≡ true → (next : Slot.Ticket) (place : ℕ) (output : Bytes) → next ≡ advanced_by tried.claims its_slot
-      → PutAt turn.out turn.filled (answer_frame (Answer.Step (told_answer tried.claims next))) place output
+  pub went_on : (claims : Bool) → tried ≡ Went claims → (next : Slot.Ticket) (place : ℕ) (output : Bytes) → next ≡ advanced_by claims its_slot
+      → PutAt turn.out turn.filled (answer_frame (Answer.Step (told_answer claims next))) place output
       → Goes turn.ranks turn.input turn.long turn.all turn.known after output (table_with (set turn.table.slots team next) its_targets) (turn.at + turn.size) place
       × QuickSlots turn.known (set turn.table.slots team next) quick
-  went_on went next place output next_is put =
-      let fast = fast_at (says.few_done went) in
-      let told = quick_is_step turn.words its_targets team its_slot (get_or quick team 0) tried after fast_at is went in
-      let advanced = advanced_by tried.claims its_slot in (
+  went_on claims went next place output next_is put =
+      let fast = fast_at (says.few_done claims went) in
+      let told = quick_is_step turn.words its_targets team its_slot (get_or quick team 0) tried after claims fast_at is went in
+      let advanced = advanced_by claims its_slot in (
         step_turned turn team is_step_lem quick kept next its_targets after place output
             (by_step turn team is_step_lem quick kept next its_targets after place output (gathered_has its_targets team its_slot ∙ lt-ltb _ _ fast.stands, fast.made)
             record {
               ticket_left = ap (gathered its_targets team) next_is ∙ ap (λ (r : Stepped × Words). r.0.ticket) (sym told);
               words_left = ap (λ (r : Stepped × Words). r.1) (sym told);
               answered = subst (λ (r : Stepped × Words). PutAt turn.out turn.filled (answer_frame (Answer.Step r.0.answer)) place output) (sym told)
-                  (subst (λ (t : Slot.Ticket). PutAt turn.out turn.filled (answer_frame (Answer.Step (told_answer tried.claims t))) place output) next_is put);
+                  (subst (λ (t : Slot.Ticket). PutAt turn.out turn.filled (answer_frame (Answer.Step (told_answer claims t))) place output) next_is put);
             })
             record { below = λ p under. refl; above = λ p over. refl }
             whole,
@@ -260,26 +262,26 @@ module _ (turn : Turn) (team : ℕ) (is_step_lem : turn.aim ≡ Ok (Aim.Team ste
             (ap (quick_for turn.known) next_is ∙ same_number turn.known fast),
       )
     where
-      same_number : (known : Bool) → Quick its_targets team its_slot → quick_for known (advanced_by tried.claims its_slot) ≡ quick_for known its_slot
-      same_number true fast = ap (λ b. quick_swaps (advanced_by b its_slot)) (says.claims_is went) ∙ quick_kept its_targets team its_slot fast
+      same_number : (known : Bool) → Quick its_targets team its_slot → quick_for known (advanced_by claims its_slot) ≡ quick_for known its_slot
+      same_number true fast = ap (λ b. quick_swaps (advanced_by b its_slot)) (says.claims_is claims went) ∙ quick_kept its_targets team its_slot fast
       same_number false fast = refl
 
   -- It did not: what the other steps leave.
-  pub stepped_on : tried.went ≡ false → (left : Slot.Ticket) (targets_after : List ℕ) (words_after : Words) (place : ℕ) (output : Bytes) (value : ℕ)
+  pub stepped_on : ((claims : Bool) → tried ≡ Went claims → ⊥) → (left : Slot.Ticket) (targets_after : List ℕ) (words_after : Words) (place : ℕ) (output : Bytes) (value : ℕ)
       → StepLeft after its_targets team its_slot tried left words_after targets_after turn.out turn.filled place output
       → value ≡ quick_for turn.known left
       → Goes turn.ranks turn.input turn.long turn.all turn.known words_after output (table_with (set turn.table.slots team left) targets_after) (turn.at + turn.size) place
       × QuickSlots turn.known (set turn.table.slots team left) (set quick team value)
-  stepped_on missed left targets_after words_after place output value by number = (
-    step_turned turn team is_step_lem quick kept left targets_after words_after place output (each tried.claims refl) by.others (by.whole ∙ whole),
+  stepped_on stays left targets_after words_after place output value by number = (
+    step_turned turn team is_step_lem quick kept left targets_after words_after place output (each tried refl) by.others (by.whole ∙ whole),
     quick_stored turn.known turn.table.slots quick team value left known_team kept number,
   )
     where
-      tried_here : tried.claims ≡ true → SettledAs (step_by turn.words its_ticket team) targets_after team left words_after turn.out turn.filled place output
-      tried_here claims =
-          let (targets_same, words_same, left_by_lem) = by.missed claims in
-          let fast = fast_at (says.few_claimed claims) in
-          let step = quick_missed turn.words its_targets team its_slot (get_or quick team 0) tried after left turn.out turn.filled place output fast_at is missed claims left_by_lem in
+      tried_here : (found : ℕ) → tried ≡ Missed found → SettledAs (step_by turn.words its_ticket team) targets_after team left words_after turn.out turn.filled place output
+      tried_here found missed =
+          let (targets_same, words_same, left_by_lem) = by.missed found missed in
+          let fast = fast_at (says.few_missed found missed) in
+          let step = quick_missed turn.words its_targets team its_slot (get_or quick team 0) tried after found left turn.out turn.filled place output fast_at is missed left_by_lem in
           by_step turn team is_step_lem quick kept left targets_after words_after place output (gathered_has its_targets team its_slot ∙ lt-ltb _ _ fast.stands, fast.made)
           record {
             ticket_left = ap (λ (l : List ℕ). gathered l team left) targets_same ∙ step.ticket_left;
@@ -287,13 +289,14 @@ module _ (turn : Turn) (team : ℕ) (is_step_lem : turn.aim ≡ Ok (Aim.Team ste
             answered = step.answered;
           }
 
-      made_there : tried.claims ≡ false → SettledAs (step_by turn.words its_ticket team) targets_after team left words_after turn.out turn.filled place output
+      made_there : tried ≡ Untried → SettledAs (step_by turn.words its_ticket team) targets_after team left words_after turn.out turn.filled place output
       made_there none =
-          subst (λ (w : Words). SettledAs (step_by w its_ticket team) targets_after team left words_after turn.out turn.filled place output) (says.nothing_tried missed none) (by.made none)
+          subst (λ (w : Words). SettledAs (step_by w its_ticket team) targets_after team left words_after turn.out turn.filled place output) (says.nothing_tried none) (by.made (λ found missed. none_missed found (sym none ∙ missed)))
 
-      each : (claims : Bool) → tried.claims ≡ claims → SettledAs (step_by turn.words its_ticket team) targets_after team left words_after turn.out turn.filled place output
-      each true is = tried_here is
-      each false is = made_there is
+      each : (result : Tried) → tried ≡ result → SettledAs (step_by turn.words its_ticket team) targets_after team left words_after turn.out turn.filled place output
+      each (Went claims) is = absurd (stays claims is)
+      each (Missed found) is = tried_here found is
+      each Untried is = made_there is
 
 -- Any other frame, in the slot that the code took for it.
 module _ (turn : Turn) (other : NoStep turn.aim) (quick : List ℕ) (kept : QuickSlots turn.known turn.table.slots quick) (team : ℕ) (slotted : team ≡ team_of turn) (opened : Opened) (targets_after : List ℕ) (output : Bytes)
@@ -315,17 +318,17 @@ module _ (turn : Turn) (other : NoStep turn.aim) (quick : List ℕ) (kept : Quic
       frame_as.answered
 
   -- A ticket is opened,
-  pub opened_on : opened.opens ≡ true → team < team_count → (value : ℕ) → value ≡ quick_for turn.known opened.ticket
-      → Goes turn.ranks turn.input turn.long turn.all turn.known turn.words output (table_with (set turn.table.slots team opened.ticket) targets_after) (turn.at + turn.size) opened.filled
-      × QuickSlots turn.known (set turn.table.slots team opened.ticket) (set quick team value)
-  opened_on opens inside value number = (
-    subst (λ (t : ℕ). Goes turn.ranks turn.input turn.long turn.all turn.known turn.words output (table_with (set turn.table.slots t opened.ticket) targets_after) (turn.at + turn.size) opened.filled) (sym slotted)
-        (frame_turned opened.ticket (ap (λ b. cond b opened.ticket (slot_of turn.table (team_of turn))) opens)),
-    quick_stored turn.known turn.table.slots quick team value opened.ticket inside kept number,
+  pub opened_on : (after : Slot.Ticket) → opened.ticket ≡ Some after → team < team_count → (value : ℕ) → value ≡ quick_for turn.known after
+      → Goes turn.ranks turn.input turn.long turn.all turn.known turn.words output (table_with (set turn.table.slots team after) targets_after) (turn.at + turn.size) opened.filled
+      × QuickSlots turn.known (set turn.table.slots team after) (set quick team value)
+  opened_on after opens inside value number = (
+    subst (λ (t : ℕ). Goes turn.ranks turn.input turn.long turn.all turn.known turn.words output (table_with (set turn.table.slots t after) targets_after) (turn.at + turn.size) opened.filled) (sym slotted)
+        (frame_turned after (ap (λ (o : Option Slot.Ticket). unwrap_or o (slot_of turn.table (team_of turn))) opens)),
+    quick_stored turn.known turn.table.slots quick team value after inside kept number,
   )
 
   -- or none is.
-  pub unopened_on : opened.opens ≡ false → Goes turn.ranks turn.input turn.long turn.all turn.known turn.words output (table_with turn.table.slots targets_after) (turn.at + turn.size) opened.filled
+  pub unopened_on : opened.ticket ≡ None → Goes turn.ranks turn.input turn.long turn.all turn.known turn.words output (table_with turn.table.slots targets_after) (turn.at + turn.size) opened.filled
   unopened_on closed =
       subst (λ (l : List Slot.Ticket). Goes turn.ranks turn.input turn.long turn.all turn.known turn.words output (table_with l targets_after) (turn.at + turn.size) opened.filled) (set-get_or turn.table.slots (team_of turn) no_slot)
-      (frame_turned (slot_of turn.table (team_of turn)) (ap (λ b. cond b opened.ticket (slot_of turn.table (team_of turn))) closed))
+      (frame_turned (slot_of turn.table (team_of turn)) (ap (λ (o : Option Slot.Ticket). unwrap_or o (slot_of turn.table (team_of turn))) closed))

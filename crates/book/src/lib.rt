@@ -3,7 +3,6 @@
 
 ghost use Rattle.std.specs.Prelude.{◌≡◌, Bool, true, ℕ, ◌≤◌, ◌<◌, length};
 ghost use Rattle.words.specs.Words.{words_in_book};
-ghost use Rattle.legs.specs.Positions.{Accepted};
 ghost use Rattle.tickets.specs.Table.{table_with, table_of};
 ghost use Rattle.frames.specs.Refusals.{numbered, refusal_in};
 ghost use Rattle.calls.specs.Call.{call_of};
@@ -19,6 +18,7 @@ use calls::{Aim, Reply, Stop, Streamed};
 use dispatch::Ahead;
 use frames::{Answer, Frame, Kind, Refusal};
 use handlers::{other_frame, other_step};
+use legs::AcceptedRanks;
 use quick::Tried;
 use replies::Left;
 use tickets::{Ticket, Tickets};
@@ -41,32 +41,24 @@ fn is_step(aim: Result<Aim, Refusal>) -> bool
 fn answer(
     book: &mut [u64],
     targets: &mut [u64; Tickets::NUMBERS],
-    ranks: &[u16],
+    ranks: &AcceptedRanks,
     ticket: Ticket,
     slot: usize,
     frame: &[u8],
     aim: Result<Aim, Refusal>,
     out: &mut [u8],
 ) -> Left
-    requires { (length book.old ≡ words_in_book) × AimKnown frame.now (aim_numbered aim) × (slot ≡ slot_of (aim_numbered aim)) × Accepted ranks.now × RoomAt out.old 0 }
+    requires { (length book.old ≡ words_in_book) × AimKnown frame.now (aim_numbered aim) × (slot ≡ slot_of (aim_numbered aim)) × RoomAt out.old 0 }
     ensures left { SettledAs (settled_by book.old (gathered targets.old slot ticket) ranks.now frame.now (aim_numbered aim)) targets.new slot result.ticket book.new out.old 0 result.filled out.new }
     ensures others { ElsewhereSame targets.old targets.new slot }
 {
     if is_step(aim) {
-        return other_step(book, targets, ticket, slot, Tried::none(), false, out, 0);
+        return other_step(book, targets, ticket, slot, Tried::Untried, false, out, 0);
     }
     let opened = other_frame(book, targets, ranks, ticket, frame, aim, out, 0);
-    let filled = opened.filled;
-    if opened.opens {
-        let after = opened.ticket;
-        return Left {
-            ticket: after,
-            filled: filled,
-        };
-    }
     Left {
-        ticket: ticket,
-        filled: filled,
+        ticket: opened.ticket.unwrap_or(ticket),
+        filled: opened.filled,
     }
 }
 
@@ -97,6 +89,7 @@ pub fn call(
     if !ranks::is_permutation(ranks) {
         return turned_away(tickets, Refusal::Ranks);
     }
+    let accepted = AcceptedRanks { numbers: ranks };
     if out.len() < Answer::LONGEST {
         return turned_away(tickets, Refusal::Output);
     }
@@ -106,7 +99,7 @@ pub fn call(
     let left = answer(
         book,
         &mut tickets.targets,
-        ranks,
+        &accepted,
         ticket,
         slot,
         frame,
@@ -160,17 +153,19 @@ fn table_with(slots: [Ticket; Limits::TEAMS], targets: [u64; Tickets::NUMBERS]) 
 }
 
 // All frames, one after another, the table in two locals. An edit's claims and puts that go through, as most frames are, have
-// the fast way; where all tickets are well made at the start they stay so, and no step tests one again.
+// the fast way; where all tickets are well made at the start they stay so, and no step tests one again. The look at the ranks
+// tells the proof that they are accepted.
 fn answer_frames(
     book: &mut [u64],
     tickets: Tickets,
-    ranks: &[u16],
+    ranks: &AcceptedRanks,
     input: &[u8],
     out: &mut [u8],
 ) -> Streamed
-    requires { (length book.old ≡ words_in_book) × Accepted ranks.now }
+    requires { length book.old ≡ words_in_book }
     ensures { ((result.consumed ≤ length input.now) × (result.written ≤ length out.old)) × ((streamed_of result, book.new, out.new) ≡ stream_from (length input.now) book.old (table_of tickets) ranks.now input.now out.old 0 0) }
 {
+    let _ = &ranks.numbers;
     let mut slots = tickets.slots;
     let mut targets = tickets.targets;
     let known = making::all_well_made(slots, &targets);
@@ -189,10 +184,10 @@ fn answer_frames(
                 let slot = team as usize;
                 let tried = quick::try_quick(book, &targets, slots[slot], slot, quick[slot]);
                 let ticket = slots[slot];
-                if tried.went {
-                    let after = quick::advanced(ticket, tried.claims);
+                if let Tried::Went(claims) = tried {
+                    let after = quick::advanced(ticket, claims);
                     slots[slot] = after;
-                    filled = quick::put_told(out, filled, tried.claims, after);
+                    filled = quick::put_told(out, filled, claims, after);
                     continue;
                 }
                 let left = other_step(book, &mut targets, ticket, slot, tried, known, out, filled);
@@ -209,8 +204,7 @@ fn answer_frames(
                 let ticket = slots[slot];
                 let left = other_frame(book, &mut targets, ranks, ticket, frame, aim, out, filled);
                 filled = left.filled;
-                if left.opens {
-                    let after = left.ticket;
+                if let Some(after) = left.ticket {
                     slots[slot] = after;
                     quick[slot] = quick_of(after, known);
                 }
@@ -236,5 +230,6 @@ pub fn stream(
     if !ranks::is_permutation(ranks) {
         return stopped(tickets, 0, 0, Stop::NoRanks);
     }
-    answer_frames(book, tickets, ranks, input, out)
+    let accepted = AcceptedRanks { numbers: ranks };
+    answer_frames(book, tickets, &accepted, input, out)
 }

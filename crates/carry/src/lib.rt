@@ -67,7 +67,8 @@ fn set_newers(old: &[u64; Limits::WORDS], second: &mut [u64; Limits::WORDS])
     }
 }
 
-// The check of the old book in its own layout, in bytes of its own.
+// The check of the old book in its own layout, in bytes of its own. One function with `sound::is_plain` would take layout and
+// size side by side.
 fn is_sound_old(old: &[u64; Limits::WORDS]) -> bool
     ensures { result ≡ is_sound_in ThreeWords old.now }
 {

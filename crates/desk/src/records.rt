@@ -69,6 +69,7 @@ fn take_array<const N: usize>(left: &mut &[u8]) -> Option<[u8; N]>
     Some(*front)
 }
 
+// An impl for each width: the trait is of a type, and what the widths have in common is `take_array`.
 impl<'a> Record<'a> for u16 {
     ghost reads = { λ bytes number left. (number, left) ≡ first_number w16 bytes };
 

@@ -1,6 +1,6 @@
 -- What a frame settles, case by case: each test of the code, and what the definitions of the way say there.
 use Rattle.edits.specs.declared.View.{View}
-use Rattle.std.specs.Prelude.{Result, Ok, Err}
+use Rattle.std.specs.Prelude.{Option, None, Some, unwrap_or, Result, Ok, Err}
 use Prim.Native.Nat.{ℕ, ◌≤◌}
 use mathlib.Core.Path.{◌≡◌, refl, sym, ap, subst, ◌∙◌}
 use mathlib.Core.Bool.{Bool, true, false, cond, not, false≢true}
@@ -135,18 +135,18 @@ view_read_opens part view fields e =
 
 -- What a frame leaves that opens no ticket: the slot and its targets as they were.
 pub left_unopened : (result : Settled) (targets : List ℕ) (team : ℕ) (slot : Slot.Ticket) (opened : Opened) (answer : Answer) (out : Bytes) (at place : ℕ) (output : Bytes)
-    → (opened.opens ≡ false) × (opened.filled ≡ place) → settled_with (gathered targets team slot) answer ≡ result
+    → (opened.ticket ≡ None) × (opened.filled ≡ place) → settled_with (gathered targets team slot) answer ≡ result
     → PutAt out at (answer_frame answer) place output
     → OpenedAs result targets targets team slot opened out at output
 left_unopened result targets team slot opened answer out at place output (closed, filled) is put = record {
-  ticket_left = ap (λ b. gathered targets team (cond b opened.ticket slot)) closed ∙ ap (λ (s : Settled). s.ticket) is;
+  ticket_left = ap (λ (o : Option Slot.Ticket). gathered targets team (unwrap_or o slot)) closed ∙ ap (λ (s : Settled). s.ticket) is;
   others = record { below = λ place under. refl; above = λ place over. refl };
   answered = subst (λ (p : ℕ). PutAt out at (answer_frame result.answer) p output) (sym filled) (subst (λ (a : Answer). PutAt out at (answer_frame a) place output) (ap (λ (s : Settled). s.answer) is) put);
 }
 
 -- And one that does: the ticket that its targets say.
 pub left_opened : (result : Settled) (before after : List ℕ) (team : ℕ) (slot ticket : Slot.Ticket) (opened : Opened) (answer : Answer) (out : Bytes) (at place : ℕ) (output : Bytes)
-    → opened ≡ record { opens = true; ticket = ticket; filled = place } → settled_with (gathered after team ticket) answer ≡ result
+    → opened ≡ record { ticket = Some ticket; filled = place } → settled_with (gathered after team ticket) answer ≡ result
     → ElsewhereSame before after team → PutAt out at (answer_frame answer) place output
     → OpenedAs result before after team slot opened out at output
 left_opened result before after team slot ticket opened answer out at place output is settled others put = record {

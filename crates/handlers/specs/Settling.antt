@@ -1,5 +1,5 @@
 -- What a frame leaves: the ticket that its slot then says, the words, and its answer at a place of the output.
-use Rattle.std.specs.Prelude.{ℕ, ◌≡◌, true, false, cond, List, eqb, length, Result, Ok, Err}
+use Rattle.std.specs.Prelude.{ℕ, ◌≡◌, false, cond, List, eqb, length, unwrap_or, Result, Ok, Err}
 use Rattle.words.specs.Words.{Words}
 use Rattle.legs.specs.Positions.{Ranks}
 use Rattle.tickets.specs.declared.Ticket as Slot
@@ -14,6 +14,7 @@ use Rattle.calls.specs.Way.{Aim}
 use Rattle.calls.specs.Way.{Settled, settled_with, step_settled, new_settled}
 use Rattle.claiming.specs.Missing.{MissLeft}
 use Rattle.quick.specs.declared.Tried.{Tried}
+use Rattle.quick.specs.declared.Tried.TheVariants.{Missed}
 use Rattle.handlers.specs.declared.Opened.{Opened}
 
 -- A step of a team, by its ticket: refusal 9 or 7, else the step.
@@ -46,12 +47,12 @@ pub record SettledAs (result : Settled × Words) (targets : List ℕ) (team : �
 pub record StepLeft (before : Words) (targets_before : List ℕ) (team : ℕ) (slot : Slot.Ticket) (tried : Tried) (left : Slot.Ticket) (after : Words) (targets : List ℕ) (out : Bytes) (at place : ℕ) (output : Bytes) : Type 0 where
   pub others : ElsewhereSame targets_before targets team
   pub whole : length after ≡ length before
-  pub missed : tried.claims ≡ true → (targets ≡ targets_before) × (after ≡ before) × MissLeft targets_before team slot tried.found left out at place output
-  pub made : tried.claims ≡ false → SettledAs (step_by before (gathered targets_before team slot) team) targets team left after out at place output
+  pub missed : (found : ℕ) → tried ≡ Missed found → (targets ≡ targets_before) × (after ≡ before) × MissLeft targets_before team slot found left out at place output
+  pub made : ((found : ℕ) → tried ≡ Missed found → ⊥) → SettledAs (step_by before (gathered targets_before team slot) team) targets team left after out at place output
 
 -- The slot after a frame that may have opened a ticket.
 abbrev pub slot_after : Opened → Slot.Ticket → Slot.Ticket
-slot_after opened slot = cond opened.opens opened.ticket slot
+slot_after opened slot = unwrap_or opened.ticket slot
 
 -- What such a frame leaves: it changes no word, and no other team's targets.
 pub record OpenedAs (result : Settled) (before after : List ℕ) (team : ℕ) (slot : Slot.Ticket) (opened : Opened) (out : Bytes) (at : ℕ) (output : Bytes) : Type 0 where

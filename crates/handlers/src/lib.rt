@@ -2,9 +2,8 @@
 // a view that opens a ticket, a look, a refusal.
 #![tactic(auto)]
 
-ghost use Rattle.std.specs.Prelude.{◌≡◌, true, false, ◌-◌, ◌≤◌, ◌<◌, length};
+ghost use Rattle.std.specs.Prelude.{◌≡◌, ℕ, true, None, ◌-◌, ◌≤◌, ◌<◌, length};
 ghost use Rattle.words.specs.Words.{words_in_book, team_count};
-ghost use Rattle.legs.specs.Positions.{Accepted};
 ghost use Rattle.tickets.specs.declared.Ticket as Slot;
 ghost use Rattle.tickets.specs.Tickets.{SlotWellMade, slot_well_made};
 ghost use Rattle.tickets.specs.Table.{gathered, ElsewhereSame};
@@ -19,20 +18,21 @@ ghost use Rattle.frames.specs.declared.Answer.TheVariants as Answer;
 ghost use Rattle.calls.specs.Way.{aimed, aim_numbered, AimKnown, slot_of, look_answer, open_settled, view_settled, EditFields, settled_by};
 ghost use Rattle.replies.specs.Leaving.{RoomAt};
 ghost use Rattle.claiming.specs.Missing.{MissesIn};
+ghost use Rattle.quick.specs.declared.Tried.TheVariants.{Missed};
 ghost use Rattle.handlers.specs.Settling.{open_by, NoStep, OpenedAs, StepLeft};
 
 use calls::Aim;
 use frames::{Answer, Kind, Refusal};
+use legs::AcceptedRanks;
 use quick::Tried;
 use replies::Left;
 use tickets::{Ticket, Tickets};
 use words::Limits;
 
-// What an edit or a view that asks for a ticket leaves: whether it opens one, that ticket, and the place behind the answer.
+// What an edit or a view that asks for a ticket leaves: the ticket that it opens, if it does, and the place behind the answer.
 #[derive(Clone, Copy)]
 pub struct Opened {
-    pub opens: bool,
-    pub ticket: Ticket,
+    pub ticket: Option<Ticket>,
     pub filled: usize,
 }
 
@@ -59,25 +59,24 @@ pub fn put_refused(out: &mut [u8], at: usize, refusal: Refusal) -> usize
 
 // No ticket is opened, and the place behind the answer is known.
 fn unopened(filled: usize) -> Opened
-    ensures { (result.opens ≡ false) × (result.filled ≡ filled) }
+    ensures { (result.ticket ≡ None) × (result.filled ≡ filled) }
 {
     Opened {
-        opens: false,
-        ticket: Ticket::none(),
+        ticket: None,
         filled: filled,
     }
 }
 
 fn open_edit(
     targets: &mut [u64; Tickets::NUMBERS],
-    ranks: &[u16],
+    ranks: &AcceptedRanks,
     slot: usize,
     kind: Kind,
     part: &[u8],
     out: &mut [u8],
     at: usize,
 ) -> Opened
-    requires { (slot < team_count) × EditFields part.now (kind_number kind) × Accepted ranks.now × RoomAt out.old at }
+    requires { (slot < team_count) × EditFields part.now (kind_number kind) × RoomAt out.old at }
     ensures { (ticket : Slot.Ticket) → OpenedAs (open_settled (gathered targets.old slot ticket) ranks.now (read_edit (kind_number kind) part.now)) targets.old targets.new slot ticket result out.old at out.new }
 {
     match decoder::read_edit(kind, part) {
@@ -85,8 +84,7 @@ fn open_edit(
             let n = opening::open(targets, ranks, slot, edit);
             let filled = replies::put(out, at, Answer::Standing(n));
             Opened {
-                opens: true,
-                ticket: Ticket::edit(n),
+                ticket: Some(Ticket::edit(n)),
                 filled: filled,
             }
         }
@@ -99,13 +97,13 @@ fn open_edit(
 
 fn open_view(
     targets: &mut [u64; Tickets::NUMBERS],
-    ranks: &[u16],
+    ranks: &AcceptedRanks,
     slot: usize,
     part: &[u8],
     out: &mut [u8],
     at: usize,
 ) -> Opened
-    requires { (slot < team_count) × ViewFields part.now × Accepted ranks.now × RoomAt out.old at }
+    requires { (slot < team_count) × ViewFields part.now × RoomAt out.old at }
     ensures { (ticket : Slot.Ticket) → OpenedAs (view_settled (gathered targets.old slot ticket) ranks.now (view_read (number16 part.now 2) (view_words_in part.now))) targets.old targets.new slot ticket result out.old at out.new }
 {
     match decoder::read_view(part) {
@@ -113,8 +111,7 @@ fn open_view(
             opening::open_view(targets, ranks, slot, view);
             let filled = replies::put(out, at, Answer::Standing(view.n));
             Opened {
-                opens: true,
-                ticket: Ticket::view(view.n),
+                ticket: Some(Ticket::view(view.n)),
                 filled: filled,
             }
         }
@@ -144,7 +141,7 @@ fn known_well_made(
 // A team's frame that is no step: refused over a ticket, else an edit or a view that asks for one.
 fn open(
     targets: &mut [u64; Tickets::NUMBERS],
-    ranks: &[u16],
+    ranks: &AcceptedRanks,
     ticket: Ticket,
     frame: &[u8],
     kind: Kind,
@@ -152,7 +149,7 @@ fn open(
     out: &mut [u8],
     at: usize,
 ) -> Opened
-    requires { AimKnown frame.now (Ok (aimed (Aim.Team kind team))) × NoStep (Ok (aimed (Aim.Team kind team))) × Accepted ranks.now × RoomAt out.old at }
+    requires { AimKnown frame.now (Ok (aimed (Aim.Team kind team))) × NoStep (Ok (aimed (Aim.Team kind team))) × RoomAt out.old at }
     ensures { OpenedAs (open_by (gathered targets.old team ticket) ranks.now (part_after_kind frame.now) (kind_number kind)) targets.old targets.new team ticket result out.old at out.new }
 {
     let slot = team as usize;
@@ -175,14 +172,14 @@ fn open(
 pub fn other_frame(
     book: &[u64],
     targets: &mut [u64; Tickets::NUMBERS],
-    ranks: &[u16],
+    ranks: &AcceptedRanks,
     ticket: Ticket,
     frame: &[u8],
     aim: Result<Aim, Refusal>,
     out: &mut [u8],
     at: usize,
 ) -> Opened
-    requires { (length book.now ≡ words_in_book) × AimKnown frame.now (aim_numbered aim) × NoStep (aim_numbered aim) × Accepted ranks.now × RoomAt out.old at }
+    requires { (length book.now ≡ words_in_book) × AimKnown frame.now (aim_numbered aim) × NoStep (aim_numbered aim) × RoomAt out.old at }
     ensures { OpenedAs (settled_by book.now (gathered targets.old (slot_of (aim_numbered aim)) ticket) ranks.now frame.now (aim_numbered aim)).0 targets.old targets.new (slot_of (aim_numbered aim)) ticket result out.old at out.new }
 {
     let aim = match aim {
@@ -223,11 +220,11 @@ pub fn other_step(
     out: &mut [u8],
     at: usize,
 ) -> Left
-    requires { (length book.old ≡ words_in_book) × (slot < team_count) × (tried.claims ≡ true → MissesIn targets.old slot ticket out.old at) × (known ≡ true → SlotWellMade (gathered targets.old slot ticket)) × RoomAt out.old at }
+    requires { (length book.old ≡ words_in_book) × (slot < team_count) × ((found : ℕ) → tried ≡ Missed found → MissesIn targets.old slot ticket out.old at) × (known ≡ true → SlotWellMade (gathered targets.old slot ticket)) × RoomAt out.old at }
     ensures { StepLeft book.old targets.old slot ticket tried result.ticket book.new targets.new out.old at result.filled out.new }
 {
-    if tried.claims {
-        return claiming::missed(targets, ticket, slot, tried.found, out, at);
+    if let Tried::Missed(found) = tried {
+        return claiming::missed(targets, ticket, slot, found, out, at);
     }
     if !ticket.stands() {
         return refuse(ticket, Refusal::NoTicket, out, at);

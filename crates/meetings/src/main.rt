@@ -23,6 +23,7 @@ enum Tag {
     Meet,
 }
 
+// A table of its own: no two programs have a tag in common, and what refuses the others is `UnknownTag` for all.
 impl TryFrom<u16> for Tag {
     type Error = UnknownTag;
 

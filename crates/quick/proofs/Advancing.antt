@@ -18,16 +18,17 @@ use Rattle.tickets.specs.declared.SwapTried.{SwapTried}
 use Rattle.tickets.specs.declared.Ticket as Slot
 use Rattle.tickets.specs.Tickets.{Ticket, no_ticket, target_at}
 use Rattle.tickets.specs.Steps.{Stepped, stepped, one_more_try, advanced, claimed, put, swap_tried, settled, settled_in, step_of}
-use Rattle.tickets.specs.Table.{standing, gathered}
+use Rattle.tickets.specs.Table.{phase_of, standing, gathered}
 use Rattle.tickets.proofs.Gathering.{gathered_claimed, gathered_put}
 use Rattle.tickets.proofs.Settled.{settled_claimed, settled_in_lem}
 use Rattle.replies.specs.Leaving.{LeftBy}
 use Rattle.replies.proofs.Standing.{is_standing, standing_phase, target_fits_there, target_read}
-use Rattle.claiming.specs.Missing.{missed_by}
+use Rattle.claiming.specs.Missing.{missed_by, MissLeft}
 use Rattle.quick.specs.declared.Tried.{Tried}
-use Rattle.quick.specs.Quick.{Quick, is_plain, quick_if, quick_swaps, claims_quick, untried, quick_made, quick_tried, advanced_by, AdvancesBy, told_answer, QuickByCount, QuickKept, TriedSays, QuickSays, QuickIsStep, QuickMissed}
+use Rattle.quick.specs.declared.Tried.TheVariants.{Went, Missed, Untried}
+use Rattle.quick.specs.Quick.{Quick, is_plain, quick_if, quick_swaps, claims_quick, tried, quick_made, quick_tried, advanced_by, AdvancesBy, told_answer, QuickByCount, QuickKept, TriedSays, QuickSays, QuickIsStep, QuickMissed}
 use Rattle.quick.proofs.Swapping.{claims_plain, phase_quick, next_below, swap_by_lem}
-use Rattle.quick.proofs.Trying.{went_by, not_tried, is_tried}
+use Rattle.quick.proofs.Trying.{went_only, missed_only, some_tried, none_went, none_missed, went_by, not_tried, is_tried}
 
 -- The test of an edit that claims wherever not all is claimed, both ways.
 plain_test : (slot : Slot.Ticket) → (slot.done ≡ 0) ⊎ (slot.n ≤ slot.claimed) → is_plain slot ≡ true
@@ -175,97 +176,104 @@ module _ (words : Words) (targets : List ℕ) (team : ℕ) (slot : Slot.Ticket) 
   abbrev next : SwapTried
   next = swap_tried words (gathered targets team slot) team
 
+  -- What its swap found.
+  abbrev found : ℕ
+  found = (swap_of words next.word next.expected next.desired).found
+
   module _ (few : slot.done < quick) where
     made : ◌≡◌ {A = Tried × Words} (result, after) (quick_made words (gathered targets team slot) team (claims_quick slot))
     made = is ∙ is_tried words targets team slot quick few
 
-    found_is : result.found ≡ (swap_of words next.word next.expected next.desired).found
-    found_is = ap (λ (p : Tried × Words). p.0.found) made
-
-    went_is : result.went ≡ went_by result.found next.expected
-    went_is = ap (λ (p : Tried × Words). p.0.went) made ∙ ap (λ (f : ℕ). went_by f next.expected) (sym found_is)
-
-    claims_made : result.claims ≡ claims_quick slot
-    claims_made = ap (λ (p : Tried × Words). p.0.claims) made
+    result_is : result ≡ tried (claims_quick slot) found (went_by found next.expected)
+    result_is = ap (λ (p : Tried × Words). p.0) made
 
     -- The step is its swap, and what that found settles.
-    step_is : step_of words (gathered targets team slot) team ≡ (settled (gathered targets team slot) result.found, after)
+    step_is : step_of words (gathered targets team slot) team ≡ (settled (gathered targets team slot) found, after)
     unfolding step_of
-    step_is = sym (λ i. (settled (gathered targets team slot) (found_is i), (made i).1))
+    step_is = sym (λ i. (settled (gathered targets team slot) found, (made i).1))
+
+    went_here : (claims : Bool) → result ≡ Went claims → (went_by found next.expected ≡ true) × (claims_quick slot ≡ claims)
+    went_here claims went = went_only (claims_quick slot) found (went_by found next.expected) claims (sym result_is ∙ went)
+
+    missed_here : (word : ℕ) → result ≡ Missed word → (went_by found next.expected ≡ false) × (found ≡ word)
+    missed_here word missed = missed_only (claims_quick slot) found (went_by found next.expected) word (sym result_is ∙ missed)
 
     -- It was a claim, where it missed.
-    missed_claims : result.went ≡ false → claims_quick slot ≡ true
+    missed_claims : went_by found next.expected ≡ false → claims_quick slot ≡ true
     missed_claims missed = each (claims_quick slot) refl
       where
         each : (claims : Bool) → claims_quick slot ≡ claims → claims ≡ true
         each true by = refl
-        each false by = absurd (false≢true (sym (missed_value result.found next.expected (sym went_is ∙ missed)).0 ∙ mark_expected targets team slot (may few) by words))
+        each false by = absurd (false≢true (sym (missed_value found next.expected missed).0 ∙ mark_expected targets team slot (may few) by words))
+
+    phase_claims : claims_quick slot ≡ true → phase_of slot ≡ Claiming
+    phase_claims claims = phase_quick targets team slot (may few) ∙ ap (λ b. cond b Claiming Putting) claims
 
   module _ (over : quick ≤ slot.done) where
-    none : ◌≡◌ {A = Tried × Words} (result, after) (untried, words)
+    none : ◌≡◌ {A = Tried × Words} (result, after) (Untried, words)
     none = is ∙ not_tried words targets team slot quick over
 
-    not_went : result.went ≡ true → ⊥
-    not_went went = false≢true (sym (ap (λ (p : Tried × Words). p.0.went) none) ∙ went)
+    none_is : Untried ≡ result
+    none_is = sym (ap (λ (p : Tried × Words). p.0) none)
 
-    not_claimed : result.claims ≡ true → ⊥
-    not_claimed claims = false≢true (sym (ap (λ (p : Tried × Words). p.0.claims) none) ∙ claims)
-
-  went_few : result.went ≡ true → slot.done < quick
-  went_few went = elim (dec_lt slot.done quick) [
+  went_few : (claims : Bool) → result ≡ Went claims → slot.done < quick
+  went_few claims went = elim (dec_lt slot.done quick) [
     | yes few ↦ few
-    | no over ↦ absurd (not_went (omega (arith, over)) went)
+    | no over ↦ absurd (none_went claims (none_is (omega (arith, over)) ∙ went))
   ]
 
-  claims_few : result.claims ≡ true → slot.done < quick
-  claims_few claims = elim (dec_lt slot.done quick) [
+  missed_few : (word : ℕ) → result ≡ Missed word → slot.done < quick
+  missed_few word missed = elim (dec_lt slot.done quick) [
     | yes few ↦ few
-    | no over ↦ absurd (not_claimed (omega (arith, over)) claims)
+    | no over ↦ absurd (none_missed word (none_is (omega (arith, over)) ∙ missed))
   ]
 
   says : TriedSays words targets team slot quick result after
   says = record {
     few_done = went_few;
-    claims_is = λ went. claims_made (went_few went);
-    advances = λ went. let few = went_few went in
-        advances_by targets team slot (may few) result.claims (sym (claims_made few));
-    few_claimed = claims_few;
-    claiming = λ claims. let few = claims_few claims in
-        phase_quick targets team slot (may few) ∙ ap (λ b. cond b Claiming Putting) (sym (claims_made few) ∙ claims);
-    nothing_tried = λ missed puts. elim (dec_lt slot.done quick) [
-      | yes few ↦ absurd (false≢true (sym puts ∙ claims_made few ∙ missed_claims few missed))
+    claims_is = λ claims went. sym (went_here (went_few claims went) claims went).1;
+    advances = λ claims went. let few = went_few claims went in
+        advances_by targets team slot (may few) claims (went_here few claims went).1;
+    claimed = λ went. let few = went_few true went in
+        phase_claims few (went_here few true went).1;
+    few_missed = missed_few;
+    claiming = λ word missed. let few = missed_few word missed in
+        phase_claims few (missed_claims few (missed_here few word missed).0);
+    nothing_tried = λ untried. elim (dec_lt slot.done quick) [
+      | yes few ↦ absurd (some_tried (claims_quick slot) found (went_by found next.expected) (sym (result_is few) ∙ untried))
       | no over ↦ ap (λ (p : Tried × Words). p.1) (none (omega (arith, over)))
     ];
   }
 
   -- By what was tried.
-  goes : (went : result.went ≡ true) (claims : Bool) → claims_quick slot ≡ claims
-      → settled (gathered targets team slot) result.found ≡ stepped (gathered targets team (advanced_by claims slot)) (told_answer claims (advanced_by claims slot))
-  goes went true by =
-      let few = went_few went in
+  goes : (few : slot.done < quick) → went_by found next.expected ≡ true → (claims : Bool) → claims_quick slot ≡ claims
+      → settled (gathered targets team slot) found ≡ stepped (gathered targets team (advanced_by claims slot)) (told_answer claims (advanced_by claims slot))
+  goes few went true by =
       let may_go = may few in
       let quoted = quoted_next targets team slot may_go by words in
-      claim_settles targets team slot may_go result.found by
-      (went_value result.found next.expected (ap is_held quoted ∙ quoted_value targets team slot may_go by) (sym (went_is few) ∙ went) ∙ quoted)
-  goes went false by = put_settles targets team slot (may (went_few went)) result.found by
+      claim_settles targets team slot may_go found by
+      (went_value found next.expected (ap is_held quoted ∙ quoted_value targets team slot may_go by) went ∙ quoted)
+  goes few went false by = put_settles targets team slot (may few) found by
 
 pub quick_says : QuickSays
 quick_says = says
 
 pub quick_is_step : QuickIsStep
-quick_is_step words targets team slot quick result after may is went =
-    let few = went_few words targets team slot quick result after may is went in
-    let claims = claims_made words targets team slot quick result after may is few in
+quick_is_step words targets team slot quick result after claims may is went =
+    let few = went_few words targets team slot quick result after may is claims went in
+    let here = went_here words targets team slot quick result after may is few claims went in
     step_is words targets team slot quick result after may is few
-    ∙ (λ i. (goes words targets team slot quick result after may is went result.claims (sym claims) i, after))
+    ∙ (λ i. (goes words targets team slot quick result after may is few here.0 claims here.1 i, after))
 
 pub quick_missed : QuickMissed
-quick_missed words targets team slot quick result after left out at place output may is missed tries leaves =
-    let few = claims_few words targets team slot quick result after may is tries in
-    let claims = sym (claims_made words targets team slot quick result after may is few) ∙ tries in
+quick_missed words targets team slot quick result after word left out at place output may is missed leaves =
+    let few = missed_few words targets team slot quick result after may is word missed in
+    let here = missed_here words targets team slot quick result after may is few word missed in
+    let claims = missed_claims words targets team slot quick result after may is few here.0 in
     let next = swap_tried words (gathered targets team slot) team in
-    let other = (missed_value result.found next.expected (sym (went_is words targets team slot quick result after may is few) ∙ missed)).1 in
+    let read = (swap_of words next.word next.expected next.desired).found in
+    let other = (missed_value read next.expected here.0).1 in
     subst (λ step. LeftBy step targets team left after out at place output)
     (sym (step_is words targets team slot quick result after may is few
-    ∙ (λ i. (miss_settles targets team slot (may few) result.found claims (λ same. other (same ∙ sym (quoted_next targets team slot (may few) claims words))) i, after))))
-    (leaves after)
+    ∙ (λ i. (miss_settles targets team slot (may few) read claims (λ same. other (same ∙ sym (quoted_next targets team slot (may few) claims words))) i, after))))
+    (subst (λ (w : ℕ). MissLeft targets team slot w left out at place output) (sym here.1) leaves after)

@@ -1,7 +1,7 @@
 -- What a swap tried on the fast way comes to, by the tests of the code.
 use Prim.Native.Nat.{ℕ, ◌≤◌, ◌<◌}
-use mathlib.Core.Path.{◌≡◌, sym, ap, ◌∙◌}
-use mathlib.Core.Bool.{Bool, true, cond}
+use mathlib.Core.Path.{◌≡◌, refl, sym, ap, ◌∙◌}
+use mathlib.Core.Bool.{Bool, true, false, cond, false≢true}
 use mathlib.Core.List.{List}
 use borrow.Author.Tests.{le-leb, lt-leb, eq-eqb, ne_eqb}
 use lib.Dec.{eqb}
@@ -11,7 +11,50 @@ use Rattle.tickets.specs.declared.Ticket as Slot
 use Rattle.tickets.specs.Steps.{swap_tried}
 use Rattle.tickets.specs.Table.{gathered}
 use Rattle.quick.specs.declared.Tried.{Tried}
-use Rattle.quick.specs.Quick.{claims_quick, tried, untried, quick_made, quick_tried}
+use Rattle.quick.specs.declared.Tried.TheVariants.{Went, Missed, Untried}
+use Rattle.quick.specs.Quick.{claims_quick, tried, quick_made, quick_tried}
+
+-- The cases of what came of a swap, apart.
+abbrev went_in : Tried → Bool
+went_in (Went claims) = true
+went_in (Missed found) = false
+went_in Untried = false
+
+abbrev missed_in : Tried → Bool
+missed_in (Went claims) = false
+missed_in (Missed found) = true
+missed_in Untried = false
+
+abbrev claims_told : Tried → Bool
+claims_told (Went claims) = claims
+claims_told (Missed found) = false
+claims_told Untried = false
+
+abbrev found_told : Tried → ℕ
+found_told (Went claims) = 0
+found_told (Missed found) = found
+found_told Untried = 0
+
+pub went_only : (claims : Bool) (found : ℕ) (went told : Bool) → tried claims found went ≡ Went told → (went ≡ true) × (claims ≡ told)
+went_only claims found true told is = (refl, ap claims_told is)
+went_only claims found false told is = absurd (false≢true (ap went_in is))
+
+pub missed_only : (claims : Bool) (found : ℕ) (went : Bool) (told : ℕ) → tried claims found went ≡ Missed told → (went ≡ false) × (found ≡ told)
+missed_only claims found true told is = absurd (false≢true (ap missed_in is))
+missed_only claims found false told is = (refl, ap found_told is)
+
+pub missed_word : {found told : ℕ} → Missed found ≡ Missed told → found ≡ told
+missed_word is = ap found_told is
+
+pub some_tried : (claims : Bool) (found : ℕ) (went : Bool) → tried claims found went ≡ Untried → ⊥
+some_tried claims found true is = false≢true (sym (ap went_in is))
+some_tried claims found false is = false≢true (sym (ap missed_in is))
+
+pub none_went : (told : Bool) → Untried ≡ Went told → ⊥
+none_went told is = false≢true (ap went_in is)
+
+pub none_missed : (told : ℕ) → Untried ≡ Missed told → ⊥
+none_missed told is = false≢true (ap missed_in is)
 
 -- Whether a swap that expected this went through.
 abbrev pub went_by : ℕ → ℕ → Bool
@@ -25,10 +68,10 @@ went_other found expected other = sym (ap (λ b. cond b true (is_held expected))
 
 module _ (words : Words) (targets : List ℕ) (team : ℕ) (slot : Slot.Ticket) (quick : ℕ) where
   abbrev tried_if : Bool → Tried × Words
-  tried_if none = cond none (untried, words) (quick_made words (gathered targets team slot) team (claims_quick slot))
+  tried_if none = cond none (Untried, words) (quick_made words (gathered targets team slot) team (claims_quick slot))
 
   -- Nothing is tried where too many are done,
-  pub not_tried : quick ≤ slot.done → quick_tried words targets team slot quick ≡ (untried, words)
+  pub not_tried : quick ≤ slot.done → quick_tried words targets team slot quick ≡ (Untried, words)
   unfolding quick_tried
   not_tried over = ap tried_if (le-leb quick slot.done over)
 

@@ -14,6 +14,7 @@ use Rattle.frames.specs.Numbers.{Bytes}
 use Rattle.replies.specs.Leaving.{LeftBy}
 use Rattle.claiming.specs.Missing.{MissLeft}
 use Rattle.quick.specs.declared.Tried.{Tried}
+use Rattle.quick.specs.declared.Tried.TheVariants.{Went, Missed, Untried}
 
 -- Where an edit's ticket may go the fast way: it is an edit's, stands, is well made, and claims wherever not all is claimed.
 pub record Quick (targets : List ℕ) (team : ℕ) (slot : Slot.Ticket) : Type 0 where
@@ -39,12 +40,9 @@ quick_swaps slot = quick_if slot.kind (is_plain slot) slot.n
 abbrev pub claims_quick : Slot.Ticket → Bool
 claims_quick slot = ltb slot.claimed slot.n
 
--- What came of a swap that was tried, and of none.
+-- What came of a swap that was tried.
 abbrev pub tried : Bool → ℕ → Bool → Tried
-tried claims found went = record { claims = claims; found = found; went = went }
-
-abbrev pub untried : Tried
-untried = tried false 0 false
+tried claims found went = cond went (Went claims) (Missed found)
 
 -- A claim goes through where the word is as quoted; a put does in any case: it expects a mark, and "either way it counts as done".
 abbrev pub quick_made : Words → Ticket → ℕ → Bool → Tried × Words
@@ -57,7 +55,7 @@ quick_made words ticket team claims =
 unfoldable pub quick_tried : Words → List ℕ → ℕ → Slot.Ticket → ℕ → Tried × Words
 quick_tried words targets team slot quick =
     cond (leb quick slot.done)
-    (untried, words)
+    (Untried, words)
     (quick_made words (gathered targets team slot) team (claims_quick slot))
 
 -- The ticket after a claim or a put that went through.
@@ -96,12 +94,13 @@ QuickKept =
 -- What a swap tried on the fast way says: where it went through the ticket may be advanced; where it missed it was a claim;
 -- and else none was tried.
 pub record TriedSays (words : Words) (targets : List ℕ) (team : ℕ) (slot : Slot.Ticket) (quick : ℕ) (result : Tried) (after : Words) : Type 0 where
-  pub few_done : result.went ≡ true → slot.done < quick
-  pub claims_is : result.went ≡ true → result.claims ≡ claims_quick slot
-  pub advances : result.went ≡ true → AdvancesBy result.claims slot
-  pub few_claimed : result.claims ≡ true → slot.done < quick
-  pub claiming : result.claims ≡ true → phase_of slot ≡ Claiming
-  pub nothing_tried : result.went ≡ false → result.claims ≡ false → after ≡ words
+  pub few_done : (claims : Bool) → result ≡ Went claims → slot.done < quick
+  pub claims_is : (claims : Bool) → result ≡ Went claims → claims ≡ claims_quick slot
+  pub advances : (claims : Bool) → result ≡ Went claims → AdvancesBy claims slot
+  pub claimed : result ≡ Went true → phase_of slot ≡ Claiming
+  pub few_missed : (found : ℕ) → result ≡ Missed found → slot.done < quick
+  pub claiming : (found : ℕ) → result ≡ Missed found → phase_of slot ≡ Claiming
+  pub nothing_tried : result ≡ Untried → after ≡ words
 
 abbrev pub QuickSays : Type 0
 QuickSays =
@@ -113,20 +112,19 @@ QuickSays =
 -- Statement: where the swap went through, it is the step: the ticket advanced, and the answer told.
 abbrev pub QuickIsStep : Type 0
 QuickIsStep =
-    (words : Words) (targets : List ℕ) (team : ℕ) (slot : Slot.Ticket) (quick : ℕ) (result : Tried) (after : Words)
+    (words : Words) (targets : List ℕ) (team : ℕ) (slot : Slot.Ticket) (quick : ℕ) (result : Tried) (after : Words) (claims : Bool)
     → (slot.done < quick → Quick targets team slot)
     → ◌≡◌ {A = Tried × Words} (result, after) (quick_tried words targets team slot quick)
-    → result.went ≡ true
-    → let next = advanced_by result.claims slot in
-    ◌≡◌ {A = Stepped × Words} (step_of words (gathered targets team slot) team) (stepped (gathered targets team next) (told_answer result.claims next), after)
+    → result ≡ Went claims
+    → let next = advanced_by claims slot in
+    ◌≡◌ {A = Stepped × Words} (step_of words (gathered targets team slot) team) (stepped (gathered targets team next) (told_answer claims next), after)
 
 -- Statement: where a claim was tried and missed, the step is what `missed` leaves.
 abbrev pub QuickMissed : Type 0
 QuickMissed =
-    (words : Words) (targets : List ℕ) (team : ℕ) (slot : Slot.Ticket) (quick : ℕ) (result : Tried) (after : Words) (left : Slot.Ticket) (out : Bytes) (at place : ℕ) (output : Bytes)
+    (words : Words) (targets : List ℕ) (team : ℕ) (slot : Slot.Ticket) (quick : ℕ) (result : Tried) (after : Words) (found : ℕ) (left : Slot.Ticket) (out : Bytes) (at place : ℕ) (output : Bytes)
     → (slot.done < quick → Quick targets team slot)
     → ◌≡◌ {A = Tried × Words} (result, after) (quick_tried words targets team slot quick)
-    → result.went ≡ false
-    → result.claims ≡ true
-    → MissLeft targets team slot result.found left out at place output
+    → result ≡ Missed found
+    → MissLeft targets team slot found left out at place output
     → LeftBy (step_of words (gathered targets team slot) team) targets team left after out at place output

@@ -6,33 +6,20 @@ ghost use Rattle.words.specs.Words.{Words, words_in_book, team_count};
 ghost use Rattle.tickets.specs.Steps.{swap_tried};
 ghost use Rattle.tickets.specs.Table.{gathered};
 ghost use Rattle.replies.specs.Leaving.{RoomAt, Answered};
-ghost use Rattle.quick.specs.Quick.{Quick, is_plain, quick_swaps, untried, quick_tried, advanced_by, AdvancesBy, told_answer};
+ghost use Rattle.quick.specs.Quick.{Quick, is_plain, quick_swaps, quick_tried, advanced_by, AdvancesBy, told_answer};
 
 use encoder::AnswerKind;
 use frames::Frame;
 use frames::numbers::Bits;
 use tickets::{Kind, SwapTried, Ticket, Tickets};
 
-// What came of the next swap of an edit on the fast way: whether it was a claim, what it found, and whether it went through.
-// One that did not was a claim that missed, or none was tried.
+// What came of the next swap of an edit on the fast way: it went through, told with whether it was a claim; or it was a claim
+// that missed, told with what it found; or none was tried.
 #[derive(Clone, Copy)]
-pub struct Tried {
-    pub claims: bool,
-    pub found: u64,
-    pub went: bool,
-}
-
-impl Tried {
-    // No swap was tried.
-    pub fn none() -> Tried
-        ensures { result ≡ untried }
-    {
-        Tried {
-            claims: false,
-            found: 0,
-            went: false,
-        }
-    }
+pub enum Tried {
+    Went(bool),
+    Missed(u64),
+    Untried,
 }
 
 // One of two values, by a test.
@@ -46,14 +33,18 @@ fn chosen<T: Copy>(test: bool, yes: T, no: T) -> T
 fn is_plain(ticket: Ticket) -> bool
     ensures { result ≡ is_plain ticket }
 {
-    ticket.done == 0 || ticket.n <= ticket.claimed
+    if ticket.done == 0 {
+        return true;
+    }
+    ticket.n <= ticket.claimed
 }
 
 // How many targets a ticket may have done and still go the fast way.
 pub fn quick_swaps(ticket: Ticket) -> u16
     ensures { result ≡ quick_swaps ticket }
 {
-    match ticket.kind {
+    let kind = ticket.kind;
+    match kind {
         Kind::Edit => chosen(is_plain(ticket), ticket.n, 0),
         Kind::Stale => 0,
         Kind::View => 0,
@@ -91,21 +82,20 @@ pub fn try_quick(
     ensures { (result, book.new) ≡ quick_tried book.old targets.now slot ticket quick }
 {
     if quick <= ticket.done {
-        return Tried::none();
+        return Tried::Untried;
     }
     let claims = ticket.claimed < ticket.n;
     let swap = swap_at(targets, slot, ticket);
-    let found = words::conditional_swap(
-        book,
-        swap.word as usize,
-        swap.expected,
-        swap.desired,
-    ).found;
-    Tried {
-        claims,
-        found,
-        went: found == swap.expected || words::is_held(swap.expected),
+    let at = swap.word as usize;
+    let report = words::conditional_swap(book, at, swap.expected, swap.desired);
+    let found = report.found;
+    if found == swap.expected {
+        return Tried::Went(claims);
     }
+    if words::is_held(swap.expected) {
+        return Tried::Went(claims);
+    }
+    Tried::Missed(found)
 }
 
 // The ticket whose swap went through.

@@ -1,24 +1,26 @@
 -- What is done after a read, by whether it brought something and whether the program goes on.
+use Rattle.std.specs.Prelude.{Some}
 use Prim.Native.Nat.{ℕ, ◌+◌, ◌-◌, ◌<◌, ◌≤◌}
 use native.Mathlib.Omega.{arith}
-use mathlib.Core.Path.{◌≡◌, sym, ap, subst, ◌∙◌}
+use mathlib.Core.Path.{◌≡◌, refl, sym, ap, subst, ◌∙◌}
 use mathlib.Core.Logic.{◌⊎◌, inl, inr}
 use mathlib.Core.Bool.{Bool, true, false, cond, false≢true}
 use borrow.Author.Tests.{eq-eqb, ne_eqb, lt-ltb, le-ltb}
 use lib.ListN.{length, take, drop, length-drop}
 use lib.Seq.{length-take-le}
 use Rattle.words.specs.Words.{Words, words_in_book}
-use Rattle.legs.specs.Positions.{Ranks, Accepted}
+use Rattle.legs.specs.Positions.{Ranks, is_permutation}
 use Rattle.tickets.specs.Tickets.{Tickets}
 use Rattle.frames.specs.declared.Answer.TheVariants.{Refused}
 use Rattle.frames.specs.Numbers.{Bytes}
 use Rattle.frames.specs.Answers.{answer_frame, longest_answer, PutAt}
 use Rattle.frames.specs.Fields.{longest_frame}
-use Rattle.calls.specs.declared.Stop.TheVariants.{MoreInput, BadLength}
 use Rattle.calls.specs.Stream.{Streamed, stream_of, Roomy}
 use Rattle.calls.specs.Pieces.{goes_on}
+use Rattle.calls.proofs.Streaming.{stream_no_ranks}
 use Rattle.calls.proofs.StreamRun.{stream_is_run}
 use Rattle.calls.proofs.StreamPieces.{room_left, room_suffices}
+use Rattle.replies.specs.Leaving.{RoomAt}
 use Rattle.serve.specs.Serving.{Served, shifted, served, refused_behind, end_of, ended_by, served_after, served_by}
 
 -- Refused 3 as it is put.
@@ -52,17 +54,37 @@ module _ (words : Words) (tickets : Tickets) (ranks : Ranks) (buffer : Bytes) (h
   unfolding served_by
   serves_read some = ap (λ (test : Bool). cond test ending answering) (sym (ne_eqb got 0 some))
 
--- A stream leaves room for Refused 3.
-refusal_room : (words : Words) (tickets : Tickets) (ranks : Ranks) (input out : Bytes) → length words ≡ words_in_book → Accepted ranks → Roomy input out
-    → let result = stream_of words tickets ranks input out in
-    longest_answer ≤ length result.2 - result.0.written
-refusal_room words tickets ranks input out whole accepted roomy =
-    omega (arith, room_left words tickets ranks input out whole accepted roomy, (stream_is_run words tickets ranks input out whole accepted).same_length)
+-- A stream keeps the length of the output, and leaves room for Refused 3: under ranks that are not accepted it writes nothing.
+abbrev RoomKept : Bytes → Streamed × Words × Bytes → Type 0
+RoomKept out result = (length result.2 ≡ length out) × (longest_answer ≤ length result.2 - result.0.written)
+
+room_kept : (words : Words) (tickets : Tickets) (ranks : Ranks) (input out : Bytes) → length words ≡ words_in_book → Roomy input out → RoomKept out (stream_of words tickets ranks input out)
+room_kept words tickets ranks input out whole roomy = go (is_permutation ranks) refl
+  where
+    go : (test : Bool) → is_permutation ranks ≡ test → RoomKept out (stream_of words tickets ranks input out)
+    go true accepted =
+        let long = (stream_is_run words tickets ranks input out whole accepted).same_length in
+        (long, omega (arith, room_left words tickets ranks input out whole accepted roomy, long))
+    go false wrong = subst (RoomKept out) (stream_no_ranks words tickets ranks input out whole wrong) (refl, omega (arith, roomy))
+
+-- The program stops behind it, or less than a whole frame is left.
+abbrev StopsOrFew : Bytes → Streamed × Words × Bytes → Type 0
+StopsOrFew input result = (goes_on result.0.stop ≡ false) ⊎ (length (drop result.0.consumed input) < longest_frame)
+
+stops_or_few : (words : Words) (tickets : Tickets) (ranks : Ranks) (input out : Bytes) → length words ≡ words_in_book → Roomy input out → StopsOrFew input (stream_of words tickets ranks input out)
+stops_or_few words tickets ranks input out whole roomy = go (is_permutation ranks) refl
+  where
+    go : (test : Bool) → is_permutation ranks ≡ test → StopsOrFew input (stream_of words tickets ranks input out)
+    go true accepted = elim (room_suffices words tickets ranks input out whole accepted roomy) [
+      | inl bad ↦ inl (ap goes_on bad)
+      | inr more ↦ inr more.1
+    ]
+    go false wrong = inl (ap (λ (result : Streamed × Words × Bytes). goes_on result.0.stop) (sym (stream_no_ranks words tickets ranks input out whole wrong)))
 
 -- By what a stream over the first bytes left.
 module _ (words : Words) (tickets : Tickets) (ranks : Ranks) (buffer : Bytes) (have : ℕ) (out : Bytes) (answered : Streamed) (after : Words) (filled : Bytes) (same : (answered, after, filled) ≡ stream_of words tickets ranks (take have buffer) out) where
   abbrev onward : Served × Words × Bytes × Bytes
-  onward = (served answered.tickets (have - answered.consumed) answered.written true, after, shifted buffer answered.consumed have, filled)
+  onward = (served answered.tickets (Some (have - answered.consumed)) answered.written, after, shifted buffer answered.consumed have, filled)
 
   abbrev halted : Served × Words × Bytes × Bytes
   halted = ended_by after answered.tickets buffer (refused_behind filled answered.written)
@@ -83,45 +105,36 @@ module _ (words : Words) (tickets : Tickets) (ranks : Ranks) (buffer : Bytes) (h
   pub serves_on :
       (left : ℕ) (front : Bytes) → left ≡ have - answered.consumed → front ≡ shifted buffer answered.consumed have
       → goes_on answered.stop ≡ true
-      → (served answered.tickets left answered.written true, after, front, filled) ≡ served_after buffer have (stream_of words tickets ranks (take have buffer) out)
+      → (served answered.tickets (Some left) answered.written, after, front, filled) ≡ served_after buffer have (stream_of words tickets ranks (take have buffer) out)
   serves_on left front many moved goes =
-      ap (λ (n : ℕ). (served answered.tickets n answered.written true, after, front, filled)) many
-      ∙ ap (λ (bytes : Bytes). (served answered.tickets (have - answered.consumed) answered.written true, after, bytes, filled)) moved
+      ap (λ (n : ℕ). (served answered.tickets (Some n) answered.written, after, front, filled)) many
+      ∙ ap (λ (bytes : Bytes). (served answered.tickets (Some (have - answered.consumed)) answered.written, after, bytes, filled)) moved
       ∙ ap (λ (on : Bool). cond on onward halted) (sym goes)
       ∙ ap (served_after buffer have) same
 
-  module _ (whole : length words ≡ words_in_book) (accepted : Accepted ranks) (inside : have ≤ length buffer) (roomy : Roomy buffer out) where
+  module _ (whole : length words ≡ words_in_book) (inside : have ≤ length buffer) (roomy : Roomy buffer out) where
     front_long : length (take have buffer) ≡ have
     front_long = length-take-le have buffer inside
 
     front_roomy : Roomy (take have buffer) out
     front_roomy = omega (arith, roomy, front_long, inside)
 
+    kept : RoomKept out (answered, after, filled)
+    kept = subst (RoomKept out) (sym same) (room_kept words tickets ranks (take have buffer) out whole front_roomy)
+
     -- There is room for Refused 3,
-    pub room_to_refuse : (answered.written ≤ length filled) × (longest_answer ≤ length filled - answered.written)
-    room_to_refuse =
-        let enough : longest_answer ≤ length filled - answered.written =
-        subst (λ (result : Streamed × Words × Bytes). longest_answer ≤ length result.2 - result.0.written) (sym same)
-        (refusal_room words tickets ranks (take have buffer) out whole accepted front_roomy) in
-        (omega (arith, enough), enough)
+    pub room_to_refuse : RoomAt filled answered.written
+    room_to_refuse = record { inside = omega (arith, kept.1); room = kept.1 }
 
     pub refused_inside : {place : ℕ} {output : Bytes} → PutAt filled answered.written (answer_frame (Refused 3)) place output → place ≤ length out
-    refused_inside put =
-        let long : length filled ≡ length out =
-        subst (λ (result : Streamed × Words × Bytes). length result.2 ≡ length out) (sym same) (stream_is_run words tickets ranks (take have buffer) out whole accepted).same_length in
-        omega (arith, put.0.1, long)
+    refused_inside put = omega (arith, put.0.1, kept.0)
 
     -- and less than a whole frame is kept where it goes on.
     pub few_kept : goes_on answered.stop ≡ true → have - answered.consumed < longest_frame
-    few_kept goes = elim stopped [ inl bad ↦ absurd (bad_ends bad) | inr more ↦ omega (arith, more.1, front_long, left) ]
+    few_kept goes = elim (subst (StopsOrFew (take have buffer)) (sym same) (stops_or_few words tickets ranks (take have buffer) out whole front_roomy)) [
+      | inl stops ↦ absurd (false≢true (sym stops ∙ goes))
+      | inr few ↦ omega (arith, few, front_long, left)
+    ]
       where
         left : length (drop answered.consumed (take have buffer)) ≡ length (take have buffer) - answered.consumed
         left = length-drop answered.consumed (take have buffer)
-
-        stopped : (answered.stop ≡ BadLength) ⊎ ((answered.stop ≡ MoreInput) × (length (drop answered.consumed (take have buffer)) < longest_frame))
-        stopped =
-            subst (λ (result : Streamed × Words × Bytes). (result.0.stop ≡ BadLength) ⊎ ((result.0.stop ≡ MoreInput) × (length (drop result.0.consumed (take have buffer)) < longest_frame))) (sym same)
-            (room_suffices words tickets ranks (take have buffer) out whole accepted front_roomy)
-
-        bad_ends : answered.stop ≡ BadLength → ⊥
-        bad_ends bad = false≢true (sym (ap goes_on bad) ∙ goes)

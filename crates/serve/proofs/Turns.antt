@@ -1,4 +1,5 @@
 -- The program's turns are the turns of an input in pieces: the front of the buffer is what was kept.
+use Rattle.std.specs.Prelude.{Some, IsSome, is_some}
 use Prim.Native.Nat.{ℕ, zero, suc, ◌+◌, ◌-◌, ◌<◌, ◌≤◌}
 use native.Mathlib.Nat.{not-suc-le-zero}
 use native.Mathlib.Omega.{arith}
@@ -160,7 +161,7 @@ module _ (before : Memory) (read : Read) (ready : Ready before) (into : ReadInto
   answers : served_after buffer have (stream_of before.words before.tickets before.ranks (take have buffer) before.out) ≡ turn_by before read
   answers = serves_read before.words before.tickets before.ranks buffer before.have (length piece) before.out (λ none. absurd (omega (arith, into.some, none)))
 
-  goes : goes_on turn.0.stop ≡ true → (served turn.0.tickets (have - turn.0.consumed) turn.0.written true, turn.1, shifted buffer turn.0.consumed have, turn.2) ≡ turn_by before read
+  goes : goes_on turn.0.stop ≡ true → (served turn.0.tickets (Some (have - turn.0.consumed)) turn.0.written, turn.1, shifted buffer turn.0.consumed have, turn.2) ≡ turn_by before read
   goes on =
       serves_on before.words before.tickets before.ranks buffer have before.out turn.0 turn.1 turn.2 same (have - turn.0.consumed) (shifted buffer turn.0.consumed have) refl refl on
       ∙ answers
@@ -177,7 +178,7 @@ module _ (before : Memory) (read : Read) (ready : Ready before) (into : ReadInto
 
   next_few : goes_on turn.0.stop ≡ true → next.have < longest_frame
   next_few on =
-      few_kept before.words before.tickets before.ranks buffer have before.out turn.0 turn.1 turn.2 same ready.whole ready.ranked inside
+      few_kept before.words before.tickets before.ranks buffer have before.out turn.0 turn.1 turn.2 same ready.whole inside
       (omega (arith, ready.roomy, into.same_length)) on
 
 -- By whether it goes on.
@@ -194,9 +195,9 @@ same_turns (read ∷ later) last before ready right =
     let after = next before read ready into in
     let done : goes_on now.0.stop ≡ true → Same after later last =
     λ on. same_turns later last after (next_ready before read ready into)
-    (subst (λ (result : Served × Words × Bytes × Bytes). result.0.on ≡ true → ReadsRight (memory_after before.ranks result) later) (sym (goes before read ready into on)) right.1 refl) in
+    (subst (λ (result : Served × Words × Bytes × Bytes). IsSome result.0.have → ReadsRight (memory_after before.ranks result) later) (sym (goes before read ready into on)) right.1 refl) in
     let is = next_known before read ready into in
-    let wrote : Served × Words × Bytes × Bytes → Bytes = λ result. wrote_by result ++ cond result.0.on (written_in_turns (memory_after before.ranks result) later last) [] in
+    let wrote : Served × Words × Bytes × Bytes → Bytes = λ result. wrote_by result ++ cond (is_some result.0.have) (written_in_turns (memory_after before.ranks result) later last) [] in
     let in_pieces : Bool → Bytes = λ on. bytes_of now ++ cond on (pieces_from (after_turn (known before) read.came) (brought later)) (answer_frame (Refused 3)) in
     let going : goes_on now.0.stop ≡ true → wrote (turn_by before read) ≡ in_pieces (goes_on now.0.stop) =
     λ on. ap wrote (sym (goes before read ready into on))
@@ -229,12 +230,12 @@ right_each (piece ∷ later) before room ready few long spare =
     let read = read_into before piece in
     let into = read_into_lem before piece spare.0.0 (omega (arith, few, long, spare.0.1)) in
     let onward : Served × Words × Bytes × Bytes → Type 0 = λ result. ReadsRight (memory_after before.ranks result) (reads_of (memory_after before.ranks result) later) in
-    let going : Type 0 = (turn_by before read).0.on ≡ true → onward (turn_by before read) in (
+    let going : Type 0 = IsSome (turn_by before read).0.have → onward (turn_by before read) in (
       into,
       either (goes_on (turn before read ready into).0.stop) going
           (λ on is_on. subst onward (goes before read ready into on)
           (right_each later (next before read ready into) room (next_ready before read ready into) (next_few before read ready into on) (next_length before read ready into ∙ long) spare.1))
-          (λ ends is_on. absurd (true≢false (sym is_on ∙ ap (λ (result : Served × Words × Bytes × Bytes). result.0.on) (sym (stops before read ready into ends))))),
+          (λ ends is_on. absurd (true≢false (sym is_on ∙ ap (λ (result : Served × Words × Bytes × Bytes). is_some result.0.have) (sym (stops before read ready into ends))))),
     )
 
 pub reads_fit : ReadsFit

@@ -1,5 +1,5 @@
 -- What the program does between a read and a write: the frames answered, what is kept for the next read, and what is written, Refused 3 included; and what it writes so, turn after turn.
-use Rattle.std.specs.Prelude.{ℕ, ◌+◌, ◌-◌, ◌<◌, ◌≤◌, ◌≡◌, List, [], ◌∷◌, ◌++◌, map, Bool, true, false, cond, length, take, drop, eqb, ltb}
+use Rattle.std.specs.Prelude.{ℕ, ◌+◌, ◌-◌, ◌<◌, ◌≤◌, ◌≡◌, List, [], ◌∷◌, ◌++◌, map, cond, length, take, drop, eqb, ltb, Option, None, Some, IsSome, is_some, unwrap_or}
 use Rattle.words.specs.Tests.{Every}
 use Rattle.words.specs.Words.{Words}
 use Rattle.legs.specs.Positions.{Ranks, Accepted}
@@ -19,19 +19,18 @@ use Rattle.serve.specs.declared.Served as Code
 abbrev pub shifted : Bytes → ℕ → ℕ → Bytes
 shifted buffer from have = take (have - from) (drop from buffer) ++ drop (have - from) buffer
 
--- What came of one read: the tickets, how many bytes of a frame not yet whole stand at the front, how many bytes to write, and whether to go on.
+-- What came of one read: the tickets, how many bytes of a frame not yet whole stand at the front, if the program goes on, and how many bytes to write.
 pub record Served : Type 0 where
   pub tickets : Tickets
-  pub have : ℕ
+  pub have : Option ℕ
   pub written : ℕ
-  pub on : Bool
 
 -- What the code's says.
 abbrev pub served_of : Code.Served → Served
-served_of result = record { tickets = table_of result.tickets; have = result.have; written = result.written; on = result.on }
+served_of result = record { tickets = table_of result.tickets; have = result.have; written = result.written }
 
-abbrev pub served : Tickets → ℕ → ℕ → Bool → Served
-served tickets have written on = record { tickets = tickets; have = have; written = written; on = on }
+abbrev pub served : Tickets → Option ℕ → ℕ → Served
+served tickets have written = record { tickets = tickets; have = have; written = written }
 
 -- Refused 3 put behind so many bytes of an output: how many there are with it, and the output.
 abbrev pub refused_behind : Bytes → ℕ → ℕ × Bytes
@@ -44,14 +43,14 @@ abbrev pub end_of : Bytes → ℕ → ℕ × Bytes
 end_of out have = cond (ltb 0 have) (refused_behind out 0) (0, out)
 
 abbrev pub ended_by : Words → Tickets → Bytes → ℕ × Bytes → Served × Words × Bytes × Bytes
-ended_by words tickets buffer (count, out) = (served tickets 0 count false, words, buffer, out)
+ended_by words tickets buffer (count, out) = (served tickets None count, words, buffer, out)
 
 -- What a stream over the first bytes of the buffer leaves: the bytes of a frame not yet whole, at the front; or none, where it stops, and Refused 3 behind the answers.
 abbrev pub served_after : Bytes → ℕ → Streamed × Words × Bytes → Served × Words × Bytes × Bytes
 served_after buffer have (answered, words, out) =
     let next = answered.tickets in
     cond (goes_on answered.stop)
-    (served next (have - answered.consumed) answered.written true, words, shifted buffer answered.consumed have, out)
+    (served next (Some (have - answered.consumed)) answered.written, words, shifted buffer answered.consumed have, out)
     (ended_by words next buffer (refused_behind out answered.written))
 
 -- After a read that brought so many bytes behind those kept, none at the end of the input: all whole frames answered, and what is kept.
@@ -102,23 +101,23 @@ EveryReadIsInto =
 abbrev pub turn_by : Memory → Read → Served × Words × Bytes × Bytes
 turn_by before read = served_by before.words before.tickets before.ranks read.buffer before.have (length read.came) before.out
 
--- What it leaves to the next turn; no turn writes the ranks.
+-- What it leaves to the next turn, no byte where it is the last; no turn writes the ranks.
 abbrev pub memory_after : Ranks → Served × Words × Bytes × Bytes → Memory
-memory_after ranks (result, words, buffer, out) = record { words = words; tickets = result.tickets; ranks = ranks; buffer = buffer; have = result.have; out = out }
+memory_after ranks (result, words, buffer, out) = record { words = words; tickets = result.tickets; ranks = ranks; buffer = buffer; have = unwrap_or result.have 0; out = out }
 
 -- What it writes for reads, one after another, and a last one that brings nothing, until a turn says that it does not go on.
 unfoldable pub written_in_turns : Memory → List Read → Bytes → Bytes
 written_in_turns before [] last = wrote_by (turn_by before (record { came = []; buffer = last }))
 written_in_turns before (read ∷ later) last =
     let turn = turn_by before read in
-    wrote_by turn ++ cond turn.0.on (written_in_turns (memory_after before.ranks turn) later last) []
+    wrote_by turn ++ cond (is_some turn.0.have) (written_in_turns (memory_after before.ranks turn) later last) []
 
 -- Each read that is made brings something behind what is kept.
 unfoldable pub ReadsRight : Memory → List Read → Type 0
 ReadsRight before [] = Unit {0}
 ReadsRight before (read ∷ later) =
     let turn = turn_by before read in
-    ReadInto before read × (turn.0.on ≡ true → ReadsRight (memory_after before.ranks turn) later)
+    ReadInto before read × (IsSome turn.0.have → ReadsRight (memory_after before.ranks turn) later)
 
 -- Statement: however the input comes, with room for every answer and under any ranks that are accepted, these turns write what survey is to write for the whole of it.
 abbrev pub TurnsAreSurvey : Type 0

@@ -1,47 +1,36 @@
 // What survey does between a read and a write.
 #![tactic(auto)]
 
-ghost use Rattle.std.specs.Prelude.{◌≡◌, ◌+◌, ◌-◌, ◌<◌, ◌≤◌, length, take};
+ghost use Rattle.std.specs.Prelude.{◌≡◌, ◌+◌, ◌-◌, ◌<◌, ◌≤◌, length, take, IfSome};
 ghost use Rattle.words.specs.Words.{words_in_book};
-ghost use Rattle.legs.specs.Positions.{Accepted};
 ghost use Rattle.tickets.specs.Table.{table_of};
-ghost use Rattle.frames.specs.declared.Answer.TheVariants.{Refused};
-ghost use Rattle.frames.specs.Answers.{answer_frame, longest_answer, PutAt};
+ghost use Rattle.frames.specs.Answers.{longest_answer};
 ghost use Rattle.frames.specs.Fields.{longest_frame};
 ghost use Rattle.calls.specs.Stream.{stream_of, streamed_of, Roomy};
 ghost use Rattle.calls.specs.Pieces.{goes_on};
 ghost use Rattle.serve.specs.Serving.{shifted, end_of, served_of, served_after, served_by};
 
 use calls::{Stop, Streamed};
-use frames::{Answer, Refusal};
+use frames::Refusal;
+use handlers::put_refused;
 use tickets::Tickets;
 
-// What came of one read: the tickets, how many bytes of a frame not yet whole stand at the front, how many bytes to
-// write, and whether to go on.
+// What came of one read: the tickets, how many bytes of a frame not yet whole stand at the front, if the program goes on,
+// and how many bytes to write.
 #[derive(Clone, Copy)]
 pub struct Served {
     pub tickets: Tickets,
-    pub have: usize,
+    pub have: Option<usize>,
     pub written: usize,
-    pub on: bool,
 }
 
-// Refused 3 behind the first `at` bytes of the output, for a torn last frame or a length field above 62; how many bytes
-// there are with it.
-fn put_torn(out: &mut [u8], at: usize) -> usize
-    requires { (at ≤ length out.old) × (longest_answer ≤ length out.old - at) }
-    ensures { PutAt out.old at (answer_frame (Refused 3)) result out.new }
-{
-    replies::put(out, at, Answer::Refused(Refusal::Torn.number()))
-}
-
-// What is written at the end of the input, where `have` bytes are kept.
+// What is written at the end of the input, where `have` bytes are kept: Refused 3 for a torn last frame.
 fn at_end(out: &mut [u8], have: usize) -> usize
     requires { longest_answer ≤ length out.old }
     ensures { ((result, out.new) ≡ end_of out.old have) × (result ≤ length out.old) }
 {
     if 0 < have {
-        return put_torn(out, 0);
+        return put_refused(out, 0, Refusal::Torn);
     }
     0
 }
@@ -92,28 +81,26 @@ fn serve_front(
     have: usize,
     out: &mut [u8],
 ) -> Served
-    requires { (have ≤ length buffer.old) × (length book.old ≡ words_in_book) × Accepted ranks.now × Roomy buffer.old out.old }
-    ensures bounds { (result.have ≤ have) × (result.have < longest_frame) × (result.written ≤ length out.old) }
+    requires { (have ≤ length buffer.old) × (length book.old ≡ words_in_book) × Roomy buffer.old out.old }
+    ensures bounds { IfSome result.have (λ kept. kept < longest_frame) × (result.written ≤ length out.old) }
     ensures all { (served_of result, book.new, buffer.new, out.new) ≡ served_after buffer.old have (stream_of book.old (table_of tickets) ranks.now (take have buffer.old) out.old) }
 {
     let answered = stream_front(book, tickets, ranks, buffer, have, out);
     let next = answered.tickets;
     let stop = answered.stop;
     if !goes_on(stop) {
-        let refused = put_torn(out, answered.written);
+        let refused = put_refused(out, answered.written, Refusal::Torn);
         return Served {
             tickets: next,
-            have: 0,
+            have: None,
             written: refused,
-            on: false,
         };
     }
     let left = shift(buffer, answered.consumed, have);
     Served {
         tickets: next,
-        have: left,
+        have: Some(left),
         written: answered.written,
-        on: true,
     }
 }
 
@@ -128,17 +115,16 @@ pub fn after_read(
     got: usize,
     out: &mut [u8],
 ) -> Served
-    requires { (have + got ≤ length buffer.old) × (longest_frame ≤ length buffer.old) × (length book.old ≡ words_in_book) × Accepted ranks.now × Roomy buffer.old out.old }
-    ensures bounds { (result.have < longest_frame) × (result.written ≤ length out.old) }
+    requires { (have + got ≤ length buffer.old) × (longest_frame ≤ length buffer.old) × (length book.old ≡ words_in_book) × Roomy buffer.old out.old }
+    ensures bounds { IfSome result.have (λ kept. kept < longest_frame) × (result.written ≤ length out.old) }
     ensures all { (served_of result, book.new, buffer.new, out.new) ≡ served_by book.old (table_of tickets) ranks.now buffer.old have got out.old }
 {
     if got == 0 {
         let count = at_end(out, have);
         return Served {
             tickets: tickets,
-            have: 0,
+            have: None,
             written: count,
-            on: false,
         };
     }
     serve_front(book, tickets, ranks, buffer, have + got, out)

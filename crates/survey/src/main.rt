@@ -1,9 +1,8 @@
 // The program: frames from standard input, answers to standard output.
 #![tactic(auto)]
 
-ghost use Rattle.std.specs.Prelude.{◌≡◌, ◌+◌, ◌<◌, ◌≤◌, length, take};
+ghost use Rattle.std.specs.Prelude.{◌≡◌, ◌+◌, ◌<◌, ◌≤◌, length, take, IfSome};
 ghost use Rattle.words.specs.Words.{words_in_book};
-ghost use Rattle.legs.specs.Positions.{Accepted};
 ghost use Rattle.frames.specs.Fields.{longest_frame};
 ghost use Rattle.calls.specs.Stream.{Roomy};
 
@@ -54,8 +53,8 @@ fn serve_some(
     have: usize,
     out: &mut [u8],
 ) -> Served
-    requires { (have < longest_frame) × (longest_frame ≤ length buffer.old) × (length book.old ≡ words_in_book) × Accepted ranks.now × Roomy buffer.old out.old }
-    ensures { result.have < longest_frame }
+    requires { (have < longest_frame) × (longest_frame ≤ length buffer.old) × (length book.old ≡ words_in_book) × Roomy buffer.old out.old }
+    ensures { IfSome result.have (λ kept. kept < longest_frame) }
 {
     let got = read_more(stdin, buffer, have);
     let served = serve::after_read(book, tickets, ranks, buffer, have, got, out);
@@ -72,17 +71,17 @@ fn serve_all(
     buffer: &mut [u8],
     out: &mut [u8],
 )
-    requires { (longest_frame ≤ length buffer.old) × (length book.old ≡ words_in_book) × Accepted ranks.now × Roomy buffer.old out.old }
+    requires { (longest_frame ≤ length buffer.old) × (length book.old ≡ words_in_book) × Roomy buffer.old out.old }
 {
     let mut tickets = Tickets::fresh();
     let mut have: usize = 0;
     for _ in 0..u64::MAX {
         let served = serve_some(stdin, stdout, book, tickets, ranks, buffer, have, out);
-        if !served.on {
+        let Some(kept) = served.have else {
             return;
-        }
+        };
         tickets = served.tickets;
-        have = served.have;
+        have = kept;
     }
 }
 

@@ -39,7 +39,8 @@ impl Limits {
     // A word from here on is held; below it, a value.
     pub const HELD: u64 = 9223372036854775808;
 
-    // No team's number: it stands where nobody known holds a word.
+    // No team's number: it stands where nobody known holds a word. Request 3 has the swap report this number and Waiting tell it,
+    // so an Option is no plainer: the one reader of a holder would only turn its None back into the number.
     pub const NOBODY: u16 = 65535;
 
     // A passage's words: the newest leg, the count of legs.

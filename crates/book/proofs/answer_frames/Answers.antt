@@ -49,7 +49,7 @@ step_turn c =
       at = loop.at;
       filled = loop.filled;
       goes = loop.invariant.0;
-      bytes = each_byte _ (λ (k : ℕ). omega (arith, c.shared_slice_known-2-1.given k));
+      bytes = each_byte _ (λ (k : ℕ). omega (arith, c.shared_slice_known-1.given k));
       size = step_bytes;
       ahead = (step_inside c).0;
       aim = Ok (Aim.Team step_kind (team_at c));
@@ -100,7 +100,7 @@ other_turn c aim told =
       at = loop.at;
       filled = loop.filled;
       goes = loop.invariant.0;
-      bytes = each_byte _ (λ (k : ℕ). omega (arith, c.shared_slice_known-2-1.given k));
+      bytes = each_byte _ (λ (k : ℕ). omega (arith, c.shared_slice_known-1.given k));
       size = size_at c;
       ahead = other_inside c;
       aim = aim;
@@ -116,13 +116,13 @@ no_step c aim told =
 pub loop-next-init : goal.loop-next-init
 loop-next-init c = (
   record {
-    book = c.requires.0;
+    book = c.requires;
     inside = omega arith;
     fits = omega arith;
     same_length = refl;
     left = record { most = length c.args.input.now; enough = omega arith; is = refl };
     made = λ known. all_well_made_lem _ (sym c.all_well_made-known.ensures ∙ known);
-    accepted = c.requires.1;
+    accepted = rw (← c.ranks.view_is) c.ranks.invariant;
   },
   c.all_quick-quick.ensures,
 )
@@ -174,31 +174,31 @@ bounds-slots-slot-in-Step c = omega (arith, team_below (goal.at.bounds-slots-slo
 pub advanced-after-requires : goal.advanced-after-requires
 advanced-after-requires c =
     let point = (goal.at.advanced-after-requires c).In-Step in
-    (says (step_turn point) (team_at point) refl (quick_list point) (quick_kept point) c.try_quick-tried.result c.try_quick-tried.new.book (book_whole (goal.at.advanced-after-requires c).After-slice_known-in-Step-1) c.try_quick-tried.ensures).advances c.if-tried.true
+    (says (step_turn point) (team_at point) refl (quick_list point) (quick_kept point) c.try_quick-tried.result c.try_quick-tried.new.book (book_whole (goal.at.advanced-after-requires c).After-slice_known-in-Step-1) c.try_quick-tried.ensures).advances c.in-Went.claims c.in-Went.is
 
-pub offset_bounds-slots-slot-then-tried : goal.offset_bounds-slots-slot-then-tried
-offset_bounds-slots-slot-then-tried c = omega (arith, team_below (goal.at.offset_bounds-slots-slot-then-tried c).In-Step)
+pub offset_bounds-slots-slot-in-Went : goal.offset_bounds-slots-slot-in-Went
+offset_bounds-slots-slot-in-Went c = omega (arith, team_below (goal.at.offset_bounds-slots-slot-in-Went c).In-Step)
 
-pub bounds-slots-slot-then-tried : goal.bounds-slots-slot-then-tried
-bounds-slots-slot-then-tried c = omega (arith, team_below (goal.at.bounds-slots-slot-then-tried c).In-Step)
+pub bounds-slots-slot-in-Went : goal.bounds-slots-slot-in-Went
+bounds-slots-slot-in-Went c = omega (arith, team_below (goal.at.bounds-slots-slot-in-Went c).In-Step)
 
 pub put_told-filled-requires : goal.put_told-filled-requires
 put_told-filled-requires c = step_room (goal.at.put_told-filled-requires c).In-Step
 
-pub loop-next-smaller-then-tried : goal.loop-next-smaller-then-tried
-loop-next-smaller-then-tried c = let inside = (step_inside (goal.at.loop-next-smaller-then-tried c).In-Step).0.inside in omega (arith, inside)
+pub loop-next-smaller-in-Went : goal.loop-next-smaller-in-Went
+loop-next-smaller-in-Went c = let inside = (step_inside (goal.at.loop-next-smaller-in-Went c).In-Step).0.inside in omega (arith, inside)
 
-pub loop-next-preserved-then-tried : goal.loop-next-preserved-then-tried
-loop-next-preserved-then-tried c =
-    went_on (step_turn (goal.at.loop-next-preserved-then-tried c).In-Step) (team_at (goal.at.loop-next-preserved-then-tried c).In-Step) refl (quick_list (goal.at.loop-next-preserved-then-tried c).In-Step) (quick_kept (goal.at.loop-next-preserved-then-tried c).In-Step) c.try_quick-tried.result c.try_quick-tried.new.book (book_whole (goal.at.loop-next-preserved-then-tried c).After-slice_known-in-Step-1) c.try_quick-tried.ensures
-    c.if-tried.true _ _ _ c.advanced-after.ensures c.put_told-filled.ensures
+pub loop-next-preserved-in-Went : goal.loop-next-preserved-in-Went
+loop-next-preserved-in-Went c =
+    went_on (step_turn (goal.at.loop-next-preserved-in-Went c).In-Step) (team_at (goal.at.loop-next-preserved-in-Went c).In-Step) refl (quick_list (goal.at.loop-next-preserved-in-Went c).In-Step) (quick_kept (goal.at.loop-next-preserved-in-Went c).In-Step) c.try_quick-tried.result c.try_quick-tried.new.book (book_whole (goal.at.loop-next-preserved-in-Went c).After-slice_known-in-Step-1) c.try_quick-tried.ensures
+    c.in-Went.claims c.in-Went.is _ _ _ c.advanced-after.ensures c.put_told-filled.ensures
 
 pub other_step-left-requires : goal.other_step-left-requires
 other_step-left-requires c =
     let point = (goal.at.other_step-left-requires c).In-Step in
     let told = says (step_turn point) (team_at point) refl (quick_list point) (quick_kept point) c.try_quick-tried.result c.try_quick-tried.new.book (book_whole (goal.at.other_step-left-requires c).After-slice_known-in-Step-1) c.try_quick-tried.ensures in
     let fast = quick_at (step_turn point) (team_at point) refl (quick_list point) (quick_kept point) in
-    (book_whole (goal.at.other_step-left-requires c).After-slice_known-in-Step-1, team_below point, (λ claims. record { team_known = team_below point; claiming = told.claiming claims; made = (fast (told.few_claimed claims)).made; room_at = step_room point }), slot_known_made (step_turn point), step_room point)
+    (book_whole (goal.at.other_step-left-requires c).After-slice_known-in-Step-1, team_below point, (λ found missed. record { team_known = team_below point; claiming = told.claiming found missed; made = (fast (told.few_missed found missed)).made; room_at = step_room point }), slot_known_made (step_turn point), step_room point)
 
 pub offset_bounds-slots-slot-in-Step-2 : goal.offset_bounds-slots-slot-in-Step-2
 offset_bounds-slots-slot-in-Step-2 c = omega (arith, team_below (goal.at.offset_bounds-slots-slot-in-Step-2 c).In-Step)
@@ -218,7 +218,7 @@ loop-next-smaller-in-Step c = let inside = (step_inside (goal.at.loop-next-small
 pub loop-next-preserved-in-Step : goal.loop-next-preserved-in-Step
 loop-next-preserved-in-Step c =
     stepped_on (step_turn (goal.at.loop-next-preserved-in-Step c).In-Step) (team_at (goal.at.loop-next-preserved-in-Step c).In-Step) refl (quick_list (goal.at.loop-next-preserved-in-Step c).In-Step) (quick_kept (goal.at.loop-next-preserved-in-Step c).In-Step) c.try_quick-tried.result c.try_quick-tried.new.book (book_whole (goal.at.loop-next-preserved-in-Step c).After-slice_known-in-Step-1) c.try_quick-tried.ensures
-    c.if-tried.false _ _ _ _ _ _ c.other_step-left.ensures c.quick_of.ensures
+    c.in_default.not-Went _ _ _ _ _ _ c.other_step-left.ensures c.quick_of.ensures
 
 pub overflow_add-frame : goal.overflow_add-frame
 overflow_add-frame c = omega (arith, (other_inside (goal.at.overflow_add-frame c).In-Other).inside)
@@ -235,18 +235,18 @@ slot_of-slot-requires c = slot_known (frame_at c.args.input.now c.loop-next.at (
 pub other_frame-left-requires : goal.other_frame-left-requires
 other_frame-left-requires c =
     let turn = other_turn (goal.at.other_frame-left-requires c).In-Other (aim_numbered c.aim_of-aim.result) c.aim_of-aim.ensures in
-    (turn.goes.book, turn.aim_known, no_step (goal.at.other_frame-left-requires c).In-Other (aim_numbered c.aim_of-aim.result) c.aim_of-aim.ensures, turn.goes.accepted, record { inside = turn.goes.fits; room = turn.ahead.answerable })
+    (turn.goes.book, turn.aim_known, no_step (goal.at.other_frame-left-requires c).In-Other (aim_numbered c.aim_of-aim.result) c.aim_of-aim.ensures, record { inside = turn.goes.fits; room = turn.ahead.answerable })
 
-pub loop-next-smaller-then-left : goal.loop-next-smaller-then-left
-loop-next-smaller-then-left c = let ahead = other_inside (goal.at.loop-next-smaller-then-left c).In-Other in omega (arith, ahead.inside, ahead.least)
+pub loop-next-smaller-in-Some : goal.loop-next-smaller-in-Some
+loop-next-smaller-in-Some c = let ahead = other_inside (goal.at.loop-next-smaller-in-Some c).In-Other in omega (arith, ahead.inside, ahead.least)
 
-pub loop-next-preserved-then-left : goal.loop-next-preserved-then-left
-loop-next-preserved-then-left c =
+pub loop-next-preserved-in-Some : goal.loop-next-preserved-in-Some
+loop-next-preserved-in-Some c =
     let slot = c.slot_of-slot in
     let frame = c.other_frame-left in
     let loop = c.loop-next in
-    opened_on (other_turn (goal.at.loop-next-preserved-then-left c).In-Other (aim_numbered c.aim_of-aim.result) c.aim_of-aim.ensures) (no_step (goal.at.loop-next-preserved-then-left c).In-Other (aim_numbered c.aim_of-aim.result) c.aim_of-aim.ensures) loop.quick loop.invariant.1 slot.result slot.ensures.0 frame.result _ _ frame.ensures
-    c.if-left.true slot.ensures.1 _ c.quick_of-then-left.ensures
+    opened_on (other_turn (goal.at.loop-next-preserved-in-Some c).In-Other (aim_numbered c.aim_of-aim.result) c.aim_of-aim.ensures) (no_step (goal.at.loop-next-preserved-in-Some c).In-Other (aim_numbered c.aim_of-aim.result) c.aim_of-aim.ensures) loop.quick loop.invariant.1 slot.result slot.ensures.0 frame.result _ _ frame.ensures
+    c.in-Some.after c.in-Some.is slot.ensures.1 _ c.quick_of-in-Some.ensures
 
 pub loop-next-smaller : goal.loop-next-smaller
 loop-next-smaller c = let ahead = other_inside (goal.at.loop-next-smaller c).In-Other in omega (arith, ahead.inside, ahead.least)
@@ -256,4 +256,4 @@ loop-next-preserved c =
     let slot = c.slot_of-slot in
     let frame = c.other_frame-left in
     let loop = c.loop-next in
-    (unopened_on (other_turn (goal.at.loop-next-preserved c).In-Other (aim_numbered c.aim_of-aim.result) c.aim_of-aim.ensures) (no_step (goal.at.loop-next-preserved c).In-Other (aim_numbered c.aim_of-aim.result) c.aim_of-aim.ensures) loop.quick loop.invariant.1 slot.result slot.ensures.0 frame.result _ _ frame.ensures c.if-left.false, loop.invariant.1)
+    (unopened_on (other_turn (goal.at.loop-next-preserved c).In-Other (aim_numbered c.aim_of-aim.result) c.aim_of-aim.ensures) (no_step (goal.at.loop-next-preserved c).In-Other (aim_numbered c.aim_of-aim.result) c.aim_of-aim.ensures) loop.quick loop.invariant.1 slot.result slot.ensures.0 frame.result _ _ frame.ensures c.in_default-ticket.is, loop.invariant.1)

@@ -39,7 +39,7 @@ pub slot_of-slot-requires : goal.slot_of-slot-requires
 slot_of-slot-requires c = slot_known c.args.frame.now (aim_numbered c.aim_of-aim.result) c.aim_of-aim.ensures.1
 
 pub answer-left-requires : goal.answer-left-requires
-answer-left-requires c = (c.if-book-ne-WORDS.false, c.aim_of-aim.ensures.1, c.slot_of-slot.ensures.0, sym c.is_permutation.ensures ∙ c.if-not-is_permutation.false, record { inside = omega arith; room = omega (arith, c.if-out-lt-LONGEST.false) })
+answer-left-requires c = (c.if-book-ne-WORDS.false, c.aim_of-aim.ensures.1, c.slot_of-slot.ensures.0, record { inside = omega arith; room = omega (arith, c.if-out-lt-LONGEST.false) })
 
 pub returns-clause-all : goal.returns-clause-all
 returns-clause-all c =

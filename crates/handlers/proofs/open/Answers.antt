@@ -28,7 +28,7 @@ returns-then-stands c =
 
 pub open_edit-requires : goal.open_edit-requires
 open_edit-requires c =
-    (c.requires.0.2, edit_fields_lem c.args.frame.now (kind_number c.args.kind) _ c.requires.0.0 (sym c.is_edit.ensures ∙ c.if-is_edit.true) c.part_after_kind-part.ensures, c.requires.2, c.requires.3)
+    (c.requires.0.2, edit_fields_lem c.args.frame.now (kind_number c.args.kind) _ c.requires.0.0 (sym c.is_edit.ensures ∙ c.if-is_edit.true) c.part_after_kind-part.ensures, c.requires.2)
 
 pub returns-then-is_edit : goal.returns-then-is_edit
 returns-then-is_edit c =
@@ -43,7 +43,7 @@ returns-then-is_edit c =
 pub open_view-requires : goal.open_view-requires
 open_view-requires c =
     let view = view_kind_lem c.args.frame.now (kind_number c.args.kind) c.args.team c.requires.0 c.requires.1 (sym c.is_edit.ensures ∙ c.if-is_edit.false) in
-    (c.requires.0.2, view_fields c.args.frame.now (kind_number c.args.kind) _ c.requires.0.0 view c.part_after_kind-part.ensures, c.requires.2, c.requires.3)
+    (c.requires.0.2, view_fields c.args.frame.now (kind_number c.args.kind) _ c.requires.0.0 view c.part_after_kind-part.ensures, c.requires.2)
 
 pub returns : goal.returns
 returns c =

@@ -9,7 +9,7 @@ use Rattle.handlers.proofs.open_edit.Goals as goal
 
 pub open-n-requires : goal.open-n-requires
 open-n-requires c =
-    (c.requires.0, read_allowed (kind_number c.args.kind) c.args.part.now _ (sym c.read_edit.ensures ∙ ap numbered c.in-Ok.is), c.requires.2)
+    (c.requires.0, read_allowed (kind_number c.args.kind) c.args.part.now _ (sym c.read_edit.ensures ∙ ap numbered c.in-Ok.is))
 
 pub returns-in-Ok : goal.returns-in-Ok
 returns-in-Ok c =

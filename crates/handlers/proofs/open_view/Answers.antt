@@ -9,7 +9,7 @@ use Rattle.handlers.proofs.open_view.Goals as goal
 pub open_view-requires : goal.open_view-requires
 open_view-requires c =
     let fine = view_read_opens c.args.part.now c.in-Ok.view c.requires.1 (sym c.read_view.ensures ∙ ap numbered c.in-Ok.is) in
-    (c.requires.0, fine.0, fine.1, c.requires.2)
+    (c.requires.0, fine.0, fine.1)
 
 pub returns-in-Ok : goal.returns-in-Ok
 returns-in-Ok c =

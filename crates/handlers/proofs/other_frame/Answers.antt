@@ -10,12 +10,12 @@ use Rattle.handlers.proofs.other_frame.Goals as goal
 
 pub put_look-filled-requires : goal.put_look-filled-requires
 put_look-filled-requires c =
-    (c.requires.4, c.requires.0, subst (AimKnown c.args.frame.now) (ap aim_numbered c.in-Ok.is ∙ ap (λ a. Ok (aimed a)) c.in-Look.is) c.requires.1)
+    (c.requires.3, c.requires.0, subst (AimKnown c.args.frame.now) (ap aim_numbered c.in-Ok.is ∙ ap (λ a. Ok (aimed a)) c.in-Look.is) c.requires.1)
 
 pub open-requires : goal.open-requires
 open-requires c =
     let is = ap aim_numbered c.in-Ok.is ∙ ap (λ a. Ok (aimed a)) c.in-Team.is in
-    (subst (AimKnown c.args.frame.now) is c.requires.1, subst NoStep is c.requires.2, c.requires.3, c.requires.4)
+    (subst (AimKnown c.args.frame.now) is c.requires.1, subst NoStep is c.requires.2, c.requires.3)
 
 pub returns-in-Err : goal.returns-in-Err
 returns-in-Err c =

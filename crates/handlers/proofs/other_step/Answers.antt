@@ -1,22 +1,25 @@
 -- `handlers::other_step` meets its contract: a claim that missed, refusal 9 or 7, or the step.
-use mathlib.Core.Path.{refl, sym, ◌∙◌}
-use mathlib.Core.Bool.{true, false, false≢true}
+use Prim.Native.Nat.{ℕ}
+use mathlib.Core.Path.{refl, sym, subst, ◌∙◌}
+use mathlib.Core.Bool.{true, false}
 use Rattle.tickets.specs.Table.{gathered}
+use Rattle.claiming.specs.Missing.{MissLeft}
+use Rattle.quick.proofs.Trying.{missed_word}
 use Rattle.handlers.proofs.Cases.{stands_has, stands_not, passes_made, steps_none, steps_badly, step_refused, step_left, same_there}
 use borrow.Author.Rules.{rules}
 use Rattle.handlers.proofs.other_step.Goals as goal
 
 pub missed-requires : goal.missed-requires
-missed-requires c = c.requires.2 c.if-tried.true
+missed-requires c = c.requires.2 c.in-Missed.found c.in-Missed.is
 
-pub returns-then-tried : goal.returns-then-tried
-returns-then-tried c =
+pub returns-in-Missed : goal.returns-in-Missed
+returns-in-Missed c =
     let targets = c.args.targets.now in
     record {
       others = same_there targets c.args.slot;
       whole = refl;
-      missed = λ claims. (refl, refl, c.missed.ensures);
-      made = λ none. absurd (false≢true (sym none ∙ c.if-tried.true));
+      missed = λ found missed. (refl, refl, subst (λ (w : ℕ). MissLeft targets c.args.slot c.args.ticket w c.missed.result.ticket c.args.out.now c.args.at c.missed.result.filled c.missed.new.out) (missed_word (sym c.in-Missed.is ∙ missed)) c.missed.ensures);
+      made = λ none. absurd (none c.in-Missed.found c.in-Missed.is);
     }
 
 pub returns-then-not-stands : goal.returns-then-not-stands
@@ -26,7 +29,7 @@ returns-then-not-stands c =
     record {
       others = same_there targets c.args.slot;
       whole = refl;
-      missed = λ claims. absurd (false≢true (sym c.if-tried.false ∙ claims));
+      missed = λ found missed. absurd (c.in_default.not-Missed found missed);
       made = λ none. step_refused book targets c.args.slot c.args.ticket _ 9 _ _ _ _ c.refuse.ensures.0 (steps_none book (gathered targets c.args.slot c.args.ticket) c.args.slot (stands_not targets c.args.slot c.args.ticket (sym c.stands.ensures ∙ c.if-not-stands.true))) c.refuse.ensures.1;
     }
 
@@ -37,7 +40,7 @@ returns-then-not-known_well_made c =
     record {
       others = same_there targets c.args.slot;
       whole = refl;
-      missed = λ claims. absurd (false≢true (sym c.if-tried.false ∙ claims));
+      missed = λ found missed. absurd (c.in_default.not-Missed found missed);
       made = λ none. step_refused book targets c.args.slot c.args.ticket _ 7 _ _ _ _ c.refuse-then-not-known_well_made.ensures.0 (let stands = sym c.stands.ensures ∙ c.if-not-stands.false in steps_badly book (gathered targets c.args.slot c.args.ticket) c.args.slot (stands_has targets c.args.slot c.args.ticket stands) (passes_made targets c.args.slot c.args.ticket false stands (sym c.known_well_made.ensures ∙ c.if-not-known_well_made.true))) c.refuse-then-not-known_well_made.ensures.1;
     }
 
@@ -62,6 +65,6 @@ returns c =
     record {
       others = c.step.ensures.others;
       whole = search rules;
-      missed = λ claims. absurd (false≢true (sym c.if-tried.false ∙ claims));
+      missed = λ found missed. absurd (c.in_default.not-Missed found missed);
       made = λ none. step_left book targets _ c.args.slot c.args.ticket _ _ _ _ _ _ (stands_has targets c.args.slot c.args.ticket stands) made c.step.ensures.left;
     }

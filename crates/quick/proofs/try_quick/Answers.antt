@@ -1,14 +1,13 @@
 -- `quick::try_quick` meets its contract: nothing tried where too many are done, and else one swap.
 use mathlib.Core.Path.{sym, ◌∙◌}
 use native.Mathlib.Omega.{arith}
-use borrow.Author.Tests.{eq-eqb}
 use Rattle.quick.proofs.Trying.{went_same, went_other, not_tried, tried_by}
 use Rattle.quick.proofs.try_quick.Goals as goal
 
 pub returns-then-quick-ticket : goal.returns-then-quick-ticket
 returns-then-quick-ticket c =
     let args = c.args in
-    (λ i. (c.none.ensures i, args.book.now)) ∙ sym (not_tried args.book.now args.targets.now args.slot args.ticket args.quick c.if-quick-ticket.true)
+    sym (not_tried args.book.now args.targets.now args.slot args.ticket args.quick c.if-quick-ticket.true)
 
 pub swap_at-swap-requires : goal.swap_at-swap-requires
 swap_at-swap-requires c =
@@ -20,14 +19,23 @@ returns-then-found-swap c =
     let few = c.if-quick-ticket.false in
     let args = c.args in
     let words = args.book.now in
-    tried_by words args.targets.now args.slot args.ticket args.quick swap.result c.conditional_swap-found.result.found c.conditional_swap-found.new.book _
-    (omega (arith, few)) (swap.ensures.0 words) c.conditional_swap-found.ensures.found c.conditional_swap-found.ensures.words (eq-eqb _ _ c.if-found-swap.true ∙ went_same _ _ c.if-found-swap.true)
+    tried_by words args.targets.now args.slot args.ticket args.quick swap.result c.conditional_swap-report.result.found c.conditional_swap-report.new.book _
+    (omega (arith, few)) (swap.ensures.0 words) c.conditional_swap-report.ensures.found c.conditional_swap-report.ensures.words (went_same _ _ c.if-found-swap.true)
 
-pub returns-else-found-swap : goal.returns-else-found-swap
-returns-else-found-swap c =
+pub returns-then-is_held : goal.returns-then-is_held
+returns-then-is_held c =
     let swap = c.swap_at-swap in
     let few = c.if-quick-ticket.false in
     let args = c.args in
     let words = args.book.now in
-    tried_by words args.targets.now args.slot args.ticket args.quick swap.result c.conditional_swap-found.result.found c.conditional_swap-found.new.book _
-    (omega (arith, few)) (swap.ensures.0 words) c.conditional_swap-found.ensures.found c.conditional_swap-found.ensures.words (c.is_held.ensures ∙ went_other _ _ c.if-found-swap.false)
+    tried_by words args.targets.now args.slot args.ticket args.quick swap.result c.conditional_swap-report.result.found c.conditional_swap-report.new.book _
+    (omega (arith, few)) (swap.ensures.0 words) c.conditional_swap-report.ensures.found c.conditional_swap-report.ensures.words (sym c.if-is_held.true ∙ c.is_held.ensures ∙ went_other _ _ c.if-found-swap.false)
+
+pub returns : goal.returns
+returns c =
+    let swap = c.swap_at-swap in
+    let few = c.if-quick-ticket.false in
+    let args = c.args in
+    let words = args.book.now in
+    tried_by words args.targets.now args.slot args.ticket args.quick swap.result c.conditional_swap-report.result.found c.conditional_swap-report.new.book _
+    (omega (arith, few)) (swap.ensures.0 words) c.conditional_swap-report.ensures.found c.conditional_swap-report.ensures.words (sym c.if-is_held.false ∙ c.is_held.ensures ∙ went_other _ _ c.if-found-swap.false)

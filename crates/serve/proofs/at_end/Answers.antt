@@ -6,7 +6,7 @@ use Rattle.serve.proofs.at_end.Goals as goal
 pub returns-then-have-gt0 : goal.returns-then-have-gt0
 returns-then-have-gt0 c =
     let args = c.args in
-    let put = c.put_torn.ensures in
+    let put = c.put_refused.ensures in
     (ends_torn args.out.now args.have c.if-have-gt0.true put, put.0.1)
 
 pub returns : goal.returns

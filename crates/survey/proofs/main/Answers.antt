@@ -1,14 +1,12 @@
 -- `survey::main` meets its contract: the buffers that it makes have room for every answer.
 use native.Mathlib.Omega.{arith}
 use Prim.Native.Nat.{ℕ, ◌≤◌}
-use mathlib.Core.Path.{◌≡◌, refl, sym, subst}
+use mathlib.Core.Path.{◌≡◌, refl, sym}
 use mathlib.Core.Bool.{true}
 use borrow.Author.Tests.{leb-true}
 use lib.Dec.{leb}
 use lib.ListN.{length-replicate}
 use Rattle.words.specs.Words.{words_in_book}
-use Rattle.legs.specs.Positions.{Accepted}
-use Rattle.legs.proofs.Ranks.{fixed_ranks_are_permutation}
 use Rattle.frames.specs.Fields.{longest_frame}
 use Rattle.calls.specs.Stream.{room_for}
 use Rattle.survey.specs.declared.TheConstants.Buffers.{INPUT, OUTPUT}
@@ -29,5 +27,4 @@ pub serve_all-requires : goal.serve_all-requires
 serve_all-requires c =
     let input = sym (length-replicate {A = ℕ} INPUT 0) in
     let output = sym (length-replicate {A = ℕ} OUTPUT 0) in
-    let ranked = subst Accepted (sym c.fixed_ranks-ranks.ensures) fixed_ranks_are_permutation in
-    (holds_a_frame input refl, sym (length-replicate {A = ℕ} words_in_book 0), ranked, holds_answers input output refl)
+    (holds_a_frame input refl, sym (length-replicate {A = ℕ} words_in_book 0), holds_answers input output refl)
