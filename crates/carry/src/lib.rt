@@ -101,8 +101,7 @@ pub fn carry_over(old: &[u64], second: &mut [u64], tickets: Tickets) -> Result<(
     let Some(second) = second.as_mut_array::<{ Limits::WORDS }>() else {
         return Err(Refusal::Book);
     };
-    let slots = tickets.slots;
-    if any_stands(slots) {
+    if any_stands(&tickets.slots) {
         return Err(Refusal::TicketStands);
     }
     if !is_sound_old(old) {

@@ -53,8 +53,7 @@ pub fn load(
     if !is_permutation(loaded) {
         return Err(Refusal::Ranks);
     }
-    let slots = tickets.slots;
-    if any_stands(slots) {
+    if any_stands(&tickets.slots) {
         return Err(Refusal::TicketStands);
     }
     ranks.copy_from_slice(loaded);

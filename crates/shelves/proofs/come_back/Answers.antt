@@ -13,13 +13,13 @@ use Rattle.shelves.proofs.come_back.Goals.{In_ok-checked}
 passes : (c : In_ok-checked) → Ok tt ≡ outcome_of (back_refusal c.args.book.now (table_of c.args.tickets) c.args.store.now c.args.filled.now c.args.shelf)
 passes c =
     c.in_ok-checked.ensures
-    ∙ back_checks _ _ _ c.args.shelf c.any_stands-stands.result c.never_filled-shelf_wrong.result (c.any_stands-stands.ensures c.args.tickets.targets) _ c.never_filled-shelf_wrong.ensures
+    ∙ back_checks _ _ _ c.args.shelf c.any_stands-stands.result c.never_filled-shelf_wrong.result c.any_stands-stands.ensures _ c.never_filled-shelf_wrong.ensures
 
 -- and where one applies.
 pub returns-in_err-checked : goal.returns-in_err-checked
 returns-in_err-checked c =
     let p = err_from_is_err_and c.from_residual.result c.from_residual.ensures.1 in
-    rw (p.1, p.2) (back_refused _ _ _ _ _ _ (c.in_err-checked.ensures ∙ back_checks _ _ _ c.args.shelf c.any_stands-stands.result c.never_filled-shelf_wrong.result (c.any_stands-stands.ensures c.args.tickets.targets) _ c.never_filled-shelf_wrong.ensures))
+    rw (p.1, p.2) (back_refused _ _ _ _ _ _ (c.in_err-checked.ensures ∙ back_checks _ _ _ c.args.shelf c.any_stands-stands.result c.never_filled-shelf_wrong.result c.any_stands-stands.ensures _ c.never_filled-shelf_wrong.ensures))
 
 pub take_from-requires : goal.take_from-requires
 take_from-requires c =

@@ -17,13 +17,13 @@ use Rattle.shelves.proofs.fill.Goals.{In_ok-checked}
 passes : (c : In_ok-checked) → Ok tt ≡ outcome_of (fill_refusal c.args.book.now (table_of c.args.tickets) c.args.store.now c.args.shelf)
 passes c =
     c.in_ok-checked.ensures
-    ∙ fill_checks _ _ _ c.args.shelf c.any_stands-stands.result (leb shelf_count c.args.shelf) (c.any_stands-stands.ensures c.args.tickets.targets) (unknown_is c.args.shelf)
+    ∙ fill_checks _ _ _ c.args.shelf c.any_stands-stands.result (leb shelf_count c.args.shelf) c.any_stands-stands.ensures (unknown_is c.args.shelf)
 
 -- and where one applies.
 pub returns-in_err-checked : goal.returns-in_err-checked
 returns-in_err-checked c =
     let p = err_from_is_err_and c.from_residual.result c.from_residual.ensures.1 in
-    rw (p.1, p.2) (fill_refused _ _ _ c.args.filled.now _ _ (c.in_err-checked.ensures ∙ fill_checks _ _ _ c.args.shelf c.any_stands-stands.result (leb shelf_count c.args.shelf) (c.any_stands-stands.ensures c.args.tickets.targets) (unknown_is c.args.shelf)))
+    rw (p.1, p.2) (fill_refused _ _ _ c.args.filled.now _ _ (c.in_err-checked.ensures ∙ fill_checks _ _ _ c.args.shelf c.any_stands-stands.result (leb shelf_count c.args.shelf) c.any_stands-stands.ensures (unknown_is c.args.shelf)))
 
 pub put_on-requires : goal.put_on-requires
 put_on-requires c =
