@@ -13,7 +13,9 @@ use Rattle.calls.specs.Run.{fresh}
 use Rattle.calls.specs.Survey.{joined, survey_under}
 use Rattle.calls.specs.Stream.{Streamed, stream_of, Roomy}
 use Rattle.calls.specs.Pieces.{goes_on}
-use Rattle.serve.specs.declared.Served as Code
+use Rattle.std.specs.declared.ops.ControlFlow.{ControlFlow}
+use Rattle.std.specs.declared.ops.ControlFlow.TheVariants.{Continue, Break}
+use Rattle.serve.specs.declared.Memory as Code
 
 -- The bytes from a place up to another moved to the front, over what stood there.
 abbrev pub shifted : Bytes → ℕ → ℕ → Bytes
@@ -25,12 +27,20 @@ pub record Served : Type 0 where
   pub have : Option ℕ
   pub written : ℕ
 
--- What the code's says.
-abbrev pub served_of : Code.Served → Served
-served_of result = record { tickets = table_of result.tickets; have = result.have; written = result.written }
-
 abbrev pub served : Tickets → Option ℕ → ℕ → Served
 served tickets have written = record { tickets = tickets; have = have; written = written }
+
+-- What the code's says: what it keeps, and how many bytes to write, if it goes on or not.
+abbrev pub served_of : Code.Memory → ControlFlow ℕ ℕ → Served
+served_of memory (Continue written) = served (table_of memory.tickets) (Some memory.input.have) written
+served_of memory (Break written) = served (table_of memory.tickets) None written
+
+-- The code's memory still holds the references that it was made with, to as many bytes.
+abbrev pub SameLoans : Code.Memory → Code.Memory → Type 0
+SameLoans before after =
+    (after.book.ghost_name ≡ before.book.ghost_name) × (after.ranks ≡ before.ranks)
+    × (after.input.buffer.ghost_name ≡ before.input.buffer.ghost_name) × (length after.input.buffer.now ≡ length before.input.buffer.now)
+    × (after.out.ghost_name ≡ before.out.ghost_name) × (length after.out.now ≡ length before.out.now)
 
 -- Refused 3 put behind so many bytes of an output: how many there are with it, and the output.
 abbrev pub refused_behind : Bytes → ℕ → ℕ × Bytes
