@@ -49,7 +49,7 @@ impl Input<'_> {
 // What is kept from turn to turn, lent: the book, the tickets, the ranks in force, what came and is not answered yet, and an
 // output with room for every answer.
 #[derive(Drop)]
-pub struct Memory<'a, 'b> {
+pub struct Server<'a, 'b> {
     pub book: &'a mut [u64; Limits::WORDS],
     pub tickets: Tickets,
     pub ranks: &'a [u16],
@@ -64,7 +64,7 @@ fn goes_on(stop: Stop) -> bool
     matches!(stop, Stop::MoreInput | Stop::OutputFull)
 }
 
-impl Memory<'_, '_> {
+impl Server<'_, '_> {
     ghost use Rattle.serve.specs.Serving.{end_of, served_of, served_after, served_by, SameLoans};
 
     // What is written at the end of the input, where `have` bytes are kept: Refused 3 for a torn last frame.
@@ -112,7 +112,7 @@ impl Memory<'_, '_> {
     {
         if got == 0 {
             let have = self.input.have;
-            let count = Memory::at_end(self.out, have);
+            let count = Server::at_end(self.out, have);
             return ControlFlow::Break(count);
         }
         self.input.have += got;

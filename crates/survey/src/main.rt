@@ -5,7 +5,7 @@ ghost use Rattle.std.specs.Prelude.{◌≡◌, ◌+◌, ◌<◌, ◌≤◌, leng
 ghost use Rattle.frames.specs.Fields.{longest_frame};
 
 use frames::Answer;
-use serve::{Input, Memory};
+use serve::{Input, Server};
 use std::io::{Print, Read, Stdin, Stdout};
 use std::ops::ControlFlow;
 use tickets::Tickets;
@@ -44,16 +44,16 @@ fn read_more(mut stdin: Stdin, input: &mut Input) -> usize
 }
 
 // Turn after turn, to the end of the input or a length field above 62: one read, all that is done after it, one write.
-fn serve_all(stdin: Stdin, stdout: Stdout, memory: &mut Memory)
-    requires { memory.old.input.have < longest_frame }
+fn serve_all(stdin: Stdin, stdout: Stdout, server: &mut Server)
+    requires { server.old.input.have < longest_frame }
 {
     // A loop with no measure needs the handle `Wait`, and none is allowed: a read to the end is a count that no run uses up.
     for _ in 0..u64::MAX {
-        let input = &mut memory.input;
+        let input = &mut server.input;
         let got = read_more(stdin, input);
-        match memory.after_read(got) {
-            ControlFlow::Continue(written) => write_front(stdout, memory.out, written),
-            ControlFlow::Break(written) => return write_front(stdout, memory.out, written),
+        match server.after_read(got) {
+            ControlFlow::Continue(written) => write_front(stdout, server.out, written),
+            ControlFlow::Break(written) => return write_front(stdout, server.out, written),
         }
     }
 }
@@ -67,12 +67,12 @@ fn main(rt: HostRuntime) {
         buffer: &mut buffer,
         have: 0,
     };
-    let mut memory = Memory {
+    let mut server = Server {
         book: &mut book,
         tickets: Tickets::fresh(),
         ranks: &ranks,
         input,
         out: &mut out,
     };
-    serve_all(rt.stdin(), rt.stdout(), &mut memory);
+    serve_all(rt.stdin(), rt.stdout(), &mut server);
 }

@@ -15,11 +15,11 @@ holds_answers : {input output long wide : ℕ} → input ≡ long → output ≡
 holds_answers {input} {output} {long} {wide} size room test = omega (arith, size, room, leb-true (room_for input) output test)
 
 -- The output by the law: a search would count its bytes one by one.
-pub slice_bounds-memory-end-2 : goal.slice_bounds-memory-end-2
-slice_bounds-memory-end-2 c = sym (length-replicate {A = ℕ} _ 0)
+pub slice_bounds-server-end-2 : goal.slice_bounds-server-end-2
+slice_bounds-server-end-2 c = sym (length-replicate {A = ℕ} _ 0)
 
-pub invariant_of-memory : goal.invariant_of-memory
-invariant_of-memory c =
+pub invariant_of-server : goal.invariant_of-server
+invariant_of-server c =
     let input = sym (length-replicate {A = ℕ} INPUT 0) in
     let output = sym (length-replicate {A = ℕ} OUTPUT 0) in
     record { roomy = holds_answers input output refl }

@@ -1,8 +1,8 @@
--- `serve::Memory::after_read` meets its contract: the end of the input, or what was read answered.
+-- `serve::Server::after_read` meets its contract: the end of the input, or what was read answered.
 use mathlib.Core.Path.{◌∙◌}
 use Rattle.tickets.specs.Table.{table_of}
 use Rattle.serve.proofs.Serving.{serves_end, serves_read}
-use Rattle.serve.proofs.Memory.after_read.Goals as goal
+use Rattle.serve.proofs.Server.after_read.Goals as goal
 
 pub returns-then-got-eq0-clause-all : goal.returns-then-got-eq0-clause-all
 returns-then-got-eq0-clause-all c =

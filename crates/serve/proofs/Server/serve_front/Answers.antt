@@ -1,9 +1,9 @@
--- `serve::Memory::serve_front` meets its contract: there is room for Refused 3, and less than a whole frame is kept where it goes on.
+-- `serve::Server::serve_front` meets its contract: there is room for Refused 3, and less than a whole frame is kept where it goes on.
 use native.Mathlib.Omega.{arith}
 use mathlib.Core.Path.{sym, ◌∙◌}
 use Rattle.tickets.specs.Table.{table_of}
 use Rattle.serve.proofs.Serving.{room_to_refuse, few_kept}
-use Rattle.serve.proofs.Memory.serve_front.Goals as goal
+use Rattle.serve.proofs.Server.serve_front.Goals as goal
 
 pub put_refused-refused-requires : goal.put_refused-refused-requires
 put_refused-refused-requires c =

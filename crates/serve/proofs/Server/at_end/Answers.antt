@@ -1,7 +1,7 @@
--- `serve::Memory::at_end` meets its contract: Refused 3 where bytes are kept, and else nothing.
+-- `serve::Server::at_end` meets its contract: Refused 3 where bytes are kept, and else nothing.
 use native.Mathlib.Omega.{arith}
 use Rattle.serve.proofs.Serving.{ends_torn, ends_whole}
-use Rattle.serve.proofs.Memory.at_end.Goals as goal
+use Rattle.serve.proofs.Server.at_end.Goals as goal
 
 pub returns-then-have-gt0 : goal.returns-then-have-gt0
 returns-then-have-gt0 c =
