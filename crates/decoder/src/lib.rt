@@ -200,14 +200,15 @@ pub fn read_edit(kind: Kind, part: &[u8]) -> Result<Edit, Refusal>
     }
 }
 
-// The words that a view names, zeros behind them.
+// The words that a view names, zeros behind them. They are counted: of a loop over `words.iter_mut().zip(fields)` no fact says what was
+// written through the zip, so that its proof doesn't close.
 fn named_words(part: &[u8], n: usize) -> [u64; Limits::NAMED]
     requires { (n ≤ most_named) × (length part.now ≡ 4 + 2 * n) }
     ensures { result ≡ padded_names (view_words_in part.now) }
 {
     let mut words = [0u64; Limits::NAMED];
     for k in 0..n {
-        words[k] = read16(part, 2 * Frame::FIELD + Frame::FIELD * k) as u64;
+        words[k] = u64::from(read16(part, 2 * Frame::FIELD + Frame::FIELD * k));
     }
     words
 }
