@@ -29,7 +29,8 @@ fn named_among(leg: u16, others: &[u16]) -> bool
     leg != 0 && others.contains(&leg)
 }
 
-// Whether a leg other than 0 is named twice.
+// Whether a leg other than 0 is named twice. Its callers give two to four: inlined there, no loop is left.
+#[inline(always)]
 #[tactic(auto, using(frames::proofs::Ranges::test_alone), unfolding(words::specs::Tests::some_holds))]
 fn named_twice(legs: &[u16]) -> bool
     ensures { result ≡ named_twice legs.now }
