@@ -24,8 +24,8 @@ module _ (old : Words) (passes : is_sound_in ThreeWords old ≡ true) where
   any_place zero leg high end so_far = sym (no_place_above old passes (λ r above most. so_far r above (omega (arith, end, most))))
   any_place (suc n) leg high end so_far = elim (ℕ_discrete (read_of old (place_word_in ThreeWords leg)) 0) [
     | yes none ↦ rw (eq-eqb _ 0 none) (any_place n (leg + 1) (omega arith) (omega (arith, end)) (λ r above below. elim (ℕ_discrete r leg) [
-        | yes same ↦ ap (λ (s : ℕ). read_of old (place_word_in ThreeWords s)) same ∙ none
-        | no apart ↦ so_far r above (omega arith)
-      ]))
+      | yes same ↦ ap (λ (s : ℕ). read_of old (place_word_in ThreeWords s)) same ∙ none
+      | no apart ↦ so_far r above (omega arith)
+    ]))
     | no some ↦ rw (ne_eqb _ 0 some) (sym (place_above old passes leg high (omega (arith, end)) some))
   ]
