@@ -11,10 +11,11 @@ use lib.ListN.{length, get_or, take, drop, set}
 use lib.Seq.{take-length, drop-length}
 use Rattle.words.specs.Words.{Words, words_in_book}
 use Rattle.legs.specs.Positions.{Ranks, Accepted}
+use Rattle.tickets.specs.declared.Target.{Target}
 use Rattle.tickets.specs.declared.Ticket as Slot
 use Rattle.tickets.specs.declared.Tickets as Table
 use Rattle.tickets.specs.Tickets.{Ticket, with_ticket}
-use Rattle.tickets.specs.Table.{no_slot, gathered, table_with, table_of, ElsewhereSame}
+use Rattle.tickets.specs.Table.{absent_slot, gathered, ticket_said, table_with, table_of}
 use Rattle.tickets.proofs.Tables.{slot_gathered}
 use Rattle.frames.specs.Numbers.{Bytes}
 use Rattle.frames.specs.Requests.{step_kind}
@@ -30,7 +31,7 @@ use Rattle.handlers.specs.declared.Opened.{Opened}
 use Rattle.handlers.specs.Settling.{step_by, NoStep, SettledAs, StepLeft, slot_after, OpenedAs}
 use Rattle.handlers.proofs.Cases.{step_by_lem, no_word}
 use Rattle.book.specs.Quickly.{is_step_by}
-use Rattle.book.proofs.Stored.{stored_anew}
+use Rattle.book.proofs.Stored.{slot_with, stored_anew}
 
 -- What is no step by its aim is none.
 pub no_step_by : (aim : Result Aim ℕ) → is_step_by aim ≡ false → NoStep aim
@@ -44,39 +45,27 @@ step_settles words ticket ranks frame (Ok Aim.Look) step = absurd (false≢true 
 step_settles words ticket ranks frame (Ok (Aim.Team kind team)) step =
     sym (step_by_lem words ticket ranks frame team) ∙ ap (λ (k : ℕ). settled_by words ticket ranks frame (Ok (Aim.Team k team))) (sym (eqb-true kind step_kind step))
 
-module _ (words : Words) (targets : List ℕ) (ranks : Ranks) (frame : Bytes) (aim : Result Aim ℕ) (slot : ℕ) (slotted : slot ≡ slot_of aim) (ticket : Slot.Ticket) where
+module _ (words : Words) (targets : List Target) (ranks : Ranks) (frame : Bytes) (aim : Result Aim ℕ) (slot : ℕ) (slotted : slot ≡ slot_of aim) (ticket : Slot.Ticket) where
   -- A step, none of which is tried on the fast way.
-  pub step_answered : (tried : Tried) (left : Slot.Ticket) (after : Words) (targets_after : List ℕ) (out : Bytes) (at place : ℕ) (output : Bytes) → is_step_by aim ≡ true
+  pub step_answered : (tried : Tried) (left : Slot.Ticket) (after : Words) (targets_after : List Target) (out : Bytes) (at place : ℕ) (output : Bytes) → is_step_by aim ≡ true
       → tried ≡ Untried
       → StepLeft words targets slot ticket tried left after targets_after out at place output
-      → SettledAs (settled_by words (gathered targets slot ticket) ranks frame aim) targets_after slot left after out at place output
+      → SettledAs (settled_by words (gathered targets ticket) ranks frame aim) targets_after left after out at place output
   step_answered tried left after targets_after out at place output step none by =
-      subst (λ (r : Settled × Words). SettledAs r targets_after slot left after out at place output)
-      (ap (step_by words (gathered targets slot ticket)) slotted ∙ step_settles words (gathered targets slot ticket) ranks frame aim step)
+      subst (λ (r : Settled × Words). SettledAs r targets_after left after out at place output)
+      (ap (step_by words (gathered targets ticket)) slotted ∙ step_settles words (gathered targets ticket) ranks frame aim step)
       (by.made (λ found missed. none_missed found (sym none ∙ missed)))
 
   -- Any other frame.
-  frame_there : (opened : Opened) (targets_after : List ℕ) (out : Bytes) (at : ℕ) (output : Bytes)
-      → OpenedAs (settled_by words (gathered targets (slot_of aim) ticket) ranks frame aim).0 targets targets_after (slot_of aim) ticket opened out at output
-      → OpenedAs (settled_by words (gathered targets slot ticket) ranks frame aim).0 targets targets_after slot ticket opened out at output
-  frame_there opened targets_after out at output by =
-      subst (λ (t : ℕ). OpenedAs (settled_by words (gathered targets t ticket) ranks frame aim).0 targets targets_after t ticket opened out at output) (sym slotted) by
-
-  pub frame_answered : (opened : Opened) (left : Slot.Ticket) (targets_after : List ℕ) (out : Bytes) (at : ℕ) (output : Bytes) → NoStep aim → slot_after opened ticket ≡ left
-      → OpenedAs (settled_by words (gathered targets (slot_of aim) ticket) ranks frame aim).0 targets targets_after (slot_of aim) ticket opened out at output
-      → SettledAs (settled_by words (gathered targets slot ticket) ranks frame aim) targets_after slot left words out at opened.filled output
+  pub frame_answered : (opened : Opened) (left : Slot.Ticket) (targets_after : List Target) (out : Bytes) (at : ℕ) (output : Bytes) → NoStep aim → slot_after opened ticket ≡ left
+      → OpenedAs (settled_by words (gathered targets ticket) ranks frame aim).0 targets targets_after ticket opened out at output
+      → SettledAs (settled_by words (gathered targets ticket) ranks frame aim) targets_after left words out at opened.filled output
   frame_answered opened left targets_after out at output other is by =
-      let there = frame_there opened targets_after out at output by in
       record {
-        ticket_left = ap (gathered targets_after slot) (sym is) ∙ there.ticket_left;
-        words_left = sym (no_word words (gathered targets slot ticket) ranks frame aim other);
-        answered = there.answered;
+        ticket_left = ap (gathered targets_after) (sym is) ∙ by.ticket_left;
+        words_left = sym (no_word words (gathered targets ticket) ranks frame aim other);
+        answered = by.answered;
       }
-
-  pub frame_others : (opened : Opened) (targets_after : List ℕ) (out : Bytes) (at : ℕ) (output : Bytes)
-      → OpenedAs (settled_by words (gathered targets (slot_of aim) ticket) ranks frame aim).0 targets targets_after (slot_of aim) ticket opened out at output
-      → ElsewhereSame targets targets_after slot
-  frame_others opened targets_after out at output by = (frame_there opened targets_after out at output by).others
 
 -- An answer put at the front of an output is written there.
 pub put_front : (out answer : Bytes) (place : ℕ) (output : Bytes) → PutAt out 0 answer place output → ◌≡◌ {A = ℕ × Bytes} (place, output) (written out answer)
@@ -99,19 +88,18 @@ put_front out answer place output ((counted, fits), (filled, long)) = λ i. (cou
         ∙ append-nil (answer ++ drop (length answer) out)
 
 -- The call, from what the code has: where the frame is aimed, its slot, what it left there, and what was written.
-pub answered_call : (words : Words) (table : Table.Tickets) (ranks : Ranks) (frame out : Bytes) (aim : Result Aim ℕ) (slot : ℕ) (left : Slot.Ticket) (targets : List ℕ) (after : Words) (count : ℕ) (output : Bytes)
+pub answered_call : (words : Words) (table : Table.Tickets) (ranks : Ranks) (frame out : Bytes) (aim : Result Aim ℕ) (slot : ℕ) (left : Slot.Ticket) (targets : List Target) (after : Words) (count : ℕ) (output : Bytes)
     → aim ≡ aim_of frame
     → slot ≡ slot_of aim
-    → SettledAs (settled_by words (gathered table.targets slot (get_or table.slots slot no_slot)) ranks frame aim) targets slot left after out 0 count output
-    → ElsewhereSame table.targets targets slot
+    → SettledAs (settled_by words (ticket_said (get_or table.slots slot absent_slot)) ranks frame aim) targets left after out 0 count output
     → length words ≡ words_in_book
     → Accepted ranks
     → longest_answer ≤ length out
-    → ◌≡◌ {A = Reply × Words × Bytes} (record { written = count; tickets = table_of (table_with (set table.slots slot left) targets) }, after, output) (call_of words (table_of table) ranks frame out)
-answered_call words table ranks frame out aim slot left targets after count output aimed slotted by others whole accepted room =
-    let ticket = gathered table.targets slot (get_or table.slots slot no_slot) in
+    → ◌≡◌ {A = Reply × Words × Bytes} (record { written = count; tickets = table_of (table_with (set table.slots slot (slot_with left targets))) }, after, output) (call_of words (table_of table) ranks frame out)
+answered_call words table ranks frame out aim slot left targets after count output aimed slotted by whole accepted room =
+    let ticket = ticket_said (get_or table.slots slot absent_slot) in
     let result = settled_by words ticket ranks frame aim in
-    let stored : table_of (table_with (set table.slots slot left) targets) ≡ with_ticket (table_of table) slot result.0.ticket = stored_anew table.slots table.targets targets slot left others ∙ ap (with_ticket (table_of table) slot) by.ticket_left in
+    let stored : table_of (table_with (set table.slots slot (slot_with left targets))) ≡ with_ticket (table_of table) slot result.0.ticket = stored_anew table slot left targets ∙ ap (with_ticket (table_of table) slot) by.ticket_left in
     (λ i. (record { written = count; tickets = stored i }, after, output))
     ∙ call_by words (table_of table) ranks frame out aim slot result.0 after count output aimed slotted
     ((λ i. (result.0, by.words_left i)) ∙ ap (λ (t : Ticket). settled_by words t ranks frame aim) (sym (slot_gathered table slot)))

@@ -14,11 +14,13 @@ use Rattle.words.specs.Words.{Words, words_in_book, team_count}
 use Rattle.legs.specs.Positions.{Ranks}
 use Rattle.tickets.specs.declared.Kind.{Kind}
 use Rattle.tickets.specs.declared.Kind.TheVariants.{Edit, Stale, View}
+use Rattle.tickets.specs.declared.Target.{Target}
 use Rattle.tickets.specs.declared.Ticket as Slot
+use Rattle.tickets.specs.declared.Slot as Kept
 use Rattle.tickets.specs.declared.Tickets as Table
 use Rattle.tickets.specs.Tickets.{Ticket, has_ticket, well_made, SlotWellMade}
 use Rattle.tickets.specs.Steps.{Stepped, step_of}
-use Rattle.tickets.specs.Table.{no_slot, gathered, table_with, table_of, slot_of, ElsewhereSame}
+use Rattle.tickets.specs.Table.{absent_slot, gathered, ticket_said, table_with, table_of, slot_of}
 use Rattle.tickets.proofs.Gathering.{gathered_has}
 use Rattle.frames.specs.declared.Answer.TheVariants as Answer
 use Rattle.frames.specs.Numbers.{Bytes}
@@ -43,6 +45,7 @@ use Rattle.handlers.specs.declared.Opened.{Opened}
 use Rattle.handlers.specs.Settling.{step_by, NoStep, SettledAs, StepLeft, slot_after, OpenedAs}
 use Rattle.handlers.proofs.Cases.{step_by_lem, steps_made, no_word}
 use Rattle.book.specs.Quickly.{quick_for, QuickSlots}
+use Rattle.book.proofs.Stored.{slot_with}
 use Rattle.book.proofs.Turning.{Goes, Turn, next_none, ended, frame_in, team_of, ticket_in, settled_in, slot_known_made, turned}
 
 -- The point of the code at which something is to be shown.
@@ -129,20 +132,20 @@ other_than_step input at room size aim ahead aimed = by (next_at input at) ahead
             subst NoStep (sym (aimed ∙ ap (λ (k : ℕ). aim_of (frame_at input at k)) (sym same))) no_step
 
 -- What the stream keeps beside its table, after a slot is stored anew: its own number, or the same one.
-pub quick_stored : (known : Bool) (slots : List Slot.Ticket) (quick : List ℕ) (team value : ℕ) (slot : Slot.Ticket) → team < team_count → QuickSlots known slots quick → value ≡ quick_for known slot → QuickSlots known (set slots team slot) (set quick team value)
+pub quick_stored : (known : Bool) (slots : List Kept.Slot) (quick : List ℕ) (team value : ℕ) (slot : Kept.Slot) → team < team_count → QuickSlots known slots quick → value ≡ quick_for known slot.ticket → QuickSlots known (set slots team slot) (set quick team value)
 quick_stored known slots quick team value slot inside before is = record {
   slots_room = length-set slots team slot ∙ before.slots_room;
   room = length-set quick team value ∙ before.room;
   each = λ k below. elim (ℕ_discrete k team) [
     | yes same ↦
         ap (λ (j : ℕ). get_or (set quick team value) j 0) same ∙ get_or-set_same quick team value 0 (omega (arith, inside, before.room)) ∙ is
-        ∙ ap (quick_for known) (sym (ap (λ (j : ℕ). get_or (set slots team slot) j no_slot) same ∙ get_or-set_same slots team slot no_slot (omega (arith, inside, before.slots_room))))
+        ∙ ap (λ (s : Kept.Slot). quick_for known s.ticket) (sym (ap (λ (j : ℕ). get_or (set slots team slot) j absent_slot) same ∙ get_or-set_same slots team slot absent_slot (omega (arith, inside, before.slots_room))))
     | no other ↦
-        get_or-set_other quick team k value 0 other ∙ before.each k below ∙ ap (quick_for known) (sym (get_or-set_other slots team k slot no_slot other))
+        get_or-set_other quick team k value 0 other ∙ before.each k below ∙ ap (λ (s : Kept.Slot). quick_for known s.ticket) (sym (get_or-set_other slots team k slot absent_slot other))
   ];
 }
 
-pub quick_same : (known : Bool) (slots : List Slot.Ticket) (quick : List ℕ) (team : ℕ) (slot : Slot.Ticket) → team < team_count → QuickSlots known slots quick → quick_for known slot ≡ quick_for known (get_or slots team no_slot) → QuickSlots known (set slots team slot) quick
+pub quick_same : (known : Bool) (slots : List Kept.Slot) (quick : List ℕ) (team : ℕ) (slot : Kept.Slot) → team < team_count → QuickSlots known slots quick → quick_for known slot.ticket ≡ quick_for known (get_or slots team absent_slot).ticket → QuickSlots known (set slots team slot) quick
 quick_same known slots quick team slot inside before is =
     subst (QuickSlots known (set slots team slot)) (set-get_or quick team 0)
     (quick_stored known slots quick team (get_or quick team 0) slot inside before (before.each team inside ∙ sym is))
@@ -157,18 +160,18 @@ few_stand slot few = go slot.kind (is_plain slot) few
     go Stale plain few = omega (arith, few)
     go View plain few = omega (arith, few)
 
-pub stands_made : (targets : List ℕ) (team : ℕ) (slot : Slot.Ticket) → slot.done < slot.n → SlotWellMade (gathered targets team slot) → (has_ticket (gathered targets team slot).phase ≡ true) × (well_made (gathered targets team slot) ≡ true)
-stands_made targets team slot below made = let has = gathered_has targets team slot ∙ lt-ltb slot.done slot.n below in (has, made has)
+pub stands_made : (targets : List Target) (slot : Slot.Ticket) → slot.done < slot.n → SlotWellMade (gathered targets slot) → (has_ticket (gathered targets slot).phase ≡ true) × (well_made (gathered targets slot) ≡ true)
+stands_made targets slot below made = let has = gathered_has targets slot ∙ lt-ltb slot.done slot.n below in (has, made has)
 
 module _ (turn : Turn) (team : ℕ) (is_step_lem : turn.aim ≡ Ok (Aim.Team step_kind team)) (quick : List ℕ) (kept : QuickSlots turn.known turn.table.slots quick) where
   abbrev slot : Slot.Ticket
-  slot = slot_of turn.table team
+  slot = (slot_of turn.table team).ticket
 
-  abbrev targets : List ℕ
-  targets = turn.table.targets
+  abbrev targets : List Target
+  targets = (slot_of turn.table team).targets
 
   abbrev ticket : Ticket
-  ticket = gathered targets team slot
+  ticket = gathered targets slot
 
   team_known : team < team_count
   team_known = (subst (AimKnown (frame_in turn)) is_step_lem turn.aim_known).2
@@ -177,14 +180,14 @@ module _ (turn : Turn) (team : ℕ) (is_step_lem : turn.aim ≡ Ok (Aim.Team ste
   team_is = ap way.slot_of is_step_lem
 
   made : turn.known ≡ true → SlotWellMade ticket
-  made known = subst (λ (t : ℕ). SlotWellMade (gathered targets t (slot_of turn.table t))) team_is (slot_known_made turn known)
+  made known = subst (λ (t : ℕ). SlotWellMade (ticket_said (slot_of turn.table t))) team_is (slot_known_made turn known)
 
   -- Where fewer are done than the stream keeps beside the slot, the ticket may go the fast way.
-  pub quick_at : slot.done < get_or quick team 0 → Quick targets team slot
+  pub quick_at : slot.done < get_or quick team 0 → Quick targets slot
   quick_at few = go turn.known made (subst (λ (q : ℕ). slot.done < q) (kept.each team team_known) few)
     where
-      go : (known : Bool) → (known ≡ true → SlotWellMade ticket) → slot.done < quick_for known slot → Quick targets team slot
-      go true passes few = quick_by_count targets team slot few (stands_made targets team slot (few_stand slot few) (passes refl)).1
+      go : (known : Bool) → (known ≡ true → SlotWellMade ticket) → slot.done < quick_for known slot → Quick targets slot
+      go true passes few = quick_by_count targets slot few (stands_made targets slot (few_stand slot few) (passes refl)).1
       go false passes few = absurd (no_less few)
         where
           no_less : slot.done < 0 → ⊥
@@ -193,44 +196,43 @@ module _ (turn : Turn) (team : ℕ) (is_step_lem : turn.aim ≡ Ok (Aim.Team ste
   -- What the frame settles is the step.
   settles : settled_in turn ≡ step_by turn.words ticket team
   settles =
-      ap (λ (a : Result Aim ℕ). settled_by turn.words (gathered targets (way.slot_of a) (slot_of turn.table (way.slot_of a))) turn.ranks (frame_in turn) a) is_step_lem
+      ap (λ (a : Result Aim ℕ). settled_by turn.words (ticket_said (slot_of turn.table (way.slot_of a))) turn.ranks (frame_in turn) a) is_step_lem
       ∙ step_by_lem turn.words ticket turn.ranks (frame_in turn) team
 
   -- What a step leaves, as the turn has it.
-  step_turned : (left : Slot.Ticket) (targets_after : List ℕ) (after : Words) (place : ℕ) (output : Bytes)
-      → SettledAs (step_by turn.words ticket team) targets_after team left after turn.out turn.filled place output
-      → ElsewhereSame targets targets_after team → length after ≡ words_in_book
-      → Goes turn.ranks turn.input turn.long turn.all turn.known after output (table_with (set turn.table.slots team left) targets_after) (turn.at + turn.size) place
-  step_turned left targets_after after place output settled_as others whole =
-      subst (λ (t : ℕ). Goes turn.ranks turn.input turn.long turn.all turn.known after output (table_with (set turn.table.slots t left) targets_after) (turn.at + turn.size) place) team_is
+  step_turned : (left : Slot.Ticket) (targets_after : List Target) (after : Words) (place : ℕ) (output : Bytes)
+      → SettledAs (step_by turn.words ticket team) targets_after left after turn.out turn.filled place output
+      → length after ≡ words_in_book
+      → Goes turn.ranks turn.input turn.long turn.all turn.known after output (table_with (set turn.table.slots team (slot_with left targets_after))) (turn.at + turn.size) place
+  step_turned left targets_after after place output settled_as whole =
+      subst (λ (t : ℕ). Goes turn.ranks turn.input turn.long turn.all turn.known after output (table_with (set turn.table.slots t (slot_with left targets_after))) (turn.at + turn.size) place) team_is
       (turned turn left targets_after after place output
-      (ap (λ (t : ℕ). gathered targets_after t left) team_is ∙ settled_as.ticket_left ∙ ap (λ (r : Settled × Words). r.0.ticket) (sym settles))
-      (subst (ElsewhereSame targets targets_after) (sym team_is) others)
+      (settled_as.ticket_left ∙ ap (λ (r : Settled × Words). r.0.ticket) (sym settles))
       (settled_as.words_left ∙ ap (λ (r : Settled × Words). r.1) (sym settles))
       whole
       (subst (λ (r : Settled × Words). PutAt turn.out turn.filled (answer_frame r.0.answer) place output) (sym settles) settled_as.answered))
 
   -- By a step of a ticket that stands and is well made.
-  by_step : (left : Slot.Ticket) (targets_after : List ℕ) (after : Words) (place : ℕ) (output : Bytes) → (has_ticket ticket.phase ≡ true) × (well_made ticket ≡ true)
-      → LeftBy (step_of turn.words ticket team) targets_after team left after turn.out turn.filled place output
-      → SettledAs (step_by turn.words ticket team) targets_after team left after turn.out turn.filled place output
+  by_step : (left : Slot.Ticket) (targets_after : List Target) (after : Words) (place : ℕ) (output : Bytes) → (has_ticket ticket.phase ≡ true) × (well_made ticket ≡ true)
+      → LeftBy (step_of turn.words ticket team) targets_after left after turn.out turn.filled place output
+      → SettledAs (step_by turn.words ticket team) targets_after left after turn.out turn.filled place output
   by_step left targets_after after place output (stands, well) by =
-      subst (λ (r : Settled × Words). SettledAs r targets_after team left after turn.out turn.filled place output) (steps_made turn.words ticket team stands well)
+      subst (λ (r : Settled × Words). SettledAs r targets_after left after turn.out turn.filled place output) (steps_made turn.words ticket team stands well)
       record { ticket_left = by.ticket_left; words_left = by.words_left; answered = by.answered }
 
 -- A swap on the fast way.
 module _ (turn : Turn) (team : ℕ) (is_step_lem : turn.aim ≡ Ok (Aim.Team step_kind team)) (quick : List ℕ) (kept : QuickSlots turn.known turn.table.slots quick) (tried : Tried) (after : Words) (whole : length after ≡ words_in_book)
-    (is : ◌≡◌ {A = Tried × Words} (tried, after) (quick_tried turn.words turn.table.targets team (slot_of turn.table team) (get_or quick team 0))) where
+    (is : ◌≡◌ {A = Tried × Words} (tried, after) (quick_tried turn.words (slot_of turn.table team).targets team (slot_of turn.table team).ticket (get_or quick team 0))) where
   abbrev its_slot : Slot.Ticket
-  its_slot = slot_of turn.table team
+  its_slot = (slot_of turn.table team).ticket
 
-  abbrev its_targets : List ℕ
-  its_targets = turn.table.targets
+  abbrev its_targets : List Target
+  its_targets = (slot_of turn.table team).targets
 
   abbrev its_ticket : Ticket
-  its_ticket = gathered its_targets team its_slot
+  its_ticket = gathered its_targets its_slot
 
-  fast_at : its_slot.done < get_or quick team 0 → Quick its_targets team its_slot
+  fast_at : its_slot.done < get_or quick team 0 → Quick its_targets its_slot
   fast_at = quick_at turn team is_step_lem quick kept
 
   known_team : team < team_count
@@ -242,93 +244,95 @@ module _ (turn : Turn) (team : ℕ) (is_step_lem : turn.aim ≡ Ok (Aim.Team ste
   -- It went through: the loop goes on, and the number beside the its-slot stays.
   pub went_on : (claims : Bool) → tried ≡ Went claims → (next : Slot.Ticket) (place : ℕ) (output : Bytes) → next ≡ advanced_by claims its_slot
       → PutAt turn.out turn.filled (answer_frame (Answer.Step (told_answer claims next))) place output
-      → Goes turn.ranks turn.input turn.long turn.all turn.known after output (table_with (set turn.table.slots team next) its_targets) (turn.at + turn.size) place
-      × QuickSlots turn.known (set turn.table.slots team next) quick
+      → Goes turn.ranks turn.input turn.long turn.all turn.known after output (table_with (set turn.table.slots team (slot_with next its_targets))) (turn.at + turn.size) place
+      × QuickSlots turn.known (set turn.table.slots team (slot_with next its_targets)) quick
   went_on claims went next place output next_is put =
       let fast = fast_at (says.few_done claims went) in
       let told = quick_is_step turn.words its_targets team its_slot (get_or quick team 0) tried after claims fast_at is went in
       let advanced = advanced_by claims its_slot in (
         step_turned turn team is_step_lem quick kept next its_targets after place output
-            (by_step turn team is_step_lem quick kept next its_targets after place output (gathered_has its_targets team its_slot ∙ lt-ltb _ _ fast.stands, fast.made)
+            (by_step turn team is_step_lem quick kept next its_targets after place output (gathered_has its_targets its_slot ∙ lt-ltb _ _ fast.stands, fast.made)
             record {
-              ticket_left = ap (gathered its_targets team) next_is ∙ ap (λ (r : Stepped × Words). r.0.ticket) (sym told);
+              ticket_left = ap (gathered its_targets) next_is ∙ ap (λ (r : Stepped × Words). r.0.ticket) (sym told);
               words_left = ap (λ (r : Stepped × Words). r.1) (sym told);
               answered = subst (λ (r : Stepped × Words). PutAt turn.out turn.filled (answer_frame (Answer.Step r.0.answer)) place output) (sym told)
                   (subst (λ (t : Slot.Ticket). PutAt turn.out turn.filled (answer_frame (Answer.Step (told_answer claims t))) place output) next_is put);
             })
-            record { below = λ p under. refl; above = λ p over. refl }
             whole,
-        quick_same turn.known turn.table.slots quick team next known_team kept
+        quick_same turn.known turn.table.slots quick team (slot_with next its_targets) known_team kept
             (ap (quick_for turn.known) next_is ∙ same_number turn.known fast),
       )
     where
-      same_number : (known : Bool) → Quick its_targets team its_slot → quick_for known (advanced_by claims its_slot) ≡ quick_for known its_slot
-      same_number true fast = ap (λ b. quick_swaps (advanced_by b its_slot)) (says.claims_is claims went) ∙ quick_kept its_targets team its_slot fast
+      same_number : (known : Bool) → Quick its_targets its_slot → quick_for known (advanced_by claims its_slot) ≡ quick_for known its_slot
+      same_number true fast = ap (λ b. quick_swaps (advanced_by b its_slot)) (says.claims_is claims went) ∙ quick_kept its_targets its_slot fast
       same_number false fast = refl
 
   -- It did not: what the other steps leave.
-  pub stepped_on : ((claims : Bool) → tried ≡ Went claims → ⊥) → (left : Slot.Ticket) (targets_after : List ℕ) (words_after : Words) (place : ℕ) (output : Bytes) (value : ℕ)
+  pub stepped_on : ((claims : Bool) → tried ≡ Went claims → ⊥) → (left : Slot.Ticket) (targets_after : List Target) (words_after : Words) (place : ℕ) (output : Bytes) (value : ℕ)
       → StepLeft after its_targets team its_slot tried left words_after targets_after turn.out turn.filled place output
       → value ≡ quick_for turn.known left
-      → Goes turn.ranks turn.input turn.long turn.all turn.known words_after output (table_with (set turn.table.slots team left) targets_after) (turn.at + turn.size) place
-      × QuickSlots turn.known (set turn.table.slots team left) (set quick team value)
+      → Goes turn.ranks turn.input turn.long turn.all turn.known words_after output (table_with (set turn.table.slots team (slot_with left targets_after))) (turn.at + turn.size) place
+      × QuickSlots turn.known (set turn.table.slots team (slot_with left targets_after)) (set quick team value)
   stepped_on stays left targets_after words_after place output value by number = (
-    step_turned turn team is_step_lem quick kept left targets_after words_after place output (each tried refl) by.others (by.whole ∙ whole),
-    quick_stored turn.known turn.table.slots quick team value left known_team kept number,
+    step_turned turn team is_step_lem quick kept left targets_after words_after place output (each tried refl) (by.whole ∙ whole),
+    quick_stored turn.known turn.table.slots quick team value (slot_with left targets_after) known_team kept number,
   )
     where
-      tried_here : (found : ℕ) → tried ≡ Missed found → SettledAs (step_by turn.words its_ticket team) targets_after team left words_after turn.out turn.filled place output
+      tried_here : (found : ℕ) → tried ≡ Missed found → SettledAs (step_by turn.words its_ticket team) targets_after left words_after turn.out turn.filled place output
       tried_here found missed =
           let (targets_same, words_same, left_by_lem) = by.missed found missed in
           let fast = fast_at (says.few_missed found missed) in
           let step = quick_missed turn.words its_targets team its_slot (get_or quick team 0) tried after found left turn.out turn.filled place output fast_at is missed left_by_lem in
-          by_step turn team is_step_lem quick kept left targets_after words_after place output (gathered_has its_targets team its_slot ∙ lt-ltb _ _ fast.stands, fast.made)
+          by_step turn team is_step_lem quick kept left targets_after words_after place output (gathered_has its_targets its_slot ∙ lt-ltb _ _ fast.stands, fast.made)
           record {
-            ticket_left = ap (λ (l : List ℕ). gathered l team left) targets_same ∙ step.ticket_left;
+            ticket_left = ap (λ (l : List Target). gathered l left) targets_same ∙ step.ticket_left;
             words_left = words_same ∙ step.words_left;
             answered = step.answered;
           }
 
-      made_there : tried ≡ Untried → SettledAs (step_by turn.words its_ticket team) targets_after team left words_after turn.out turn.filled place output
+      made_there : tried ≡ Untried → SettledAs (step_by turn.words its_ticket team) targets_after left words_after turn.out turn.filled place output
       made_there none =
-          subst (λ (w : Words). SettledAs (step_by w its_ticket team) targets_after team left words_after turn.out turn.filled place output) (says.nothing_tried none) (by.made (λ found missed. none_missed found (sym none ∙ missed)))
+          subst (λ (w : Words). SettledAs (step_by w its_ticket team) targets_after left words_after turn.out turn.filled place output) (says.nothing_tried none) (by.made (λ found missed. none_missed found (sym none ∙ missed)))
 
-      each : (result : Tried) → tried ≡ result → SettledAs (step_by turn.words its_ticket team) targets_after team left words_after turn.out turn.filled place output
+      each : (result : Tried) → tried ≡ result → SettledAs (step_by turn.words its_ticket team) targets_after left words_after turn.out turn.filled place output
       each (Went claims) is = absurd (stays claims is)
       each (Missed found) is = tried_here found is
       each Untried is = made_there is
 
 -- Any other frame, in the slot that the code took for it.
-module _ (turn : Turn) (other : NoStep turn.aim) (quick : List ℕ) (kept : QuickSlots turn.known turn.table.slots quick) (team : ℕ) (slotted : team ≡ team_of turn) (opened : Opened) (targets_after : List ℕ) (output : Bytes)
-    (left_as : OpenedAs (settled_by turn.words (gathered turn.table.targets (team_of turn) (slot_of turn.table team)) turn.ranks (frame_in turn) turn.aim).0 turn.table.targets targets_after (team_of turn) (slot_of turn.table team) opened turn.out turn.filled output) where
-  frame_as : OpenedAs (settled_in turn).0 turn.table.targets targets_after (team_of turn) (slot_of turn.table (team_of turn)) opened turn.out turn.filled output
+module _ (turn : Turn) (other : NoStep turn.aim) (quick : List ℕ) (kept : QuickSlots turn.known turn.table.slots quick) (team : ℕ) (slotted : team ≡ team_of turn) (opened : Opened) (targets_after : List Target) (output : Bytes)
+    (left_as : OpenedAs (settled_by turn.words (ticket_said (slot_of turn.table team)) turn.ranks (frame_in turn) turn.aim).0 (slot_of turn.table team).targets targets_after (slot_of turn.table team).ticket opened turn.out turn.filled output) where
+  frame_as : OpenedAs (settled_in turn).0 (slot_of turn.table (team_of turn)).targets targets_after (slot_of turn.table (team_of turn)).ticket opened turn.out turn.filled output
   frame_as =
-      subst (λ (t : ℕ). OpenedAs (settled_by turn.words (gathered turn.table.targets (team_of turn) (slot_of turn.table t)) turn.ranks (frame_in turn) turn.aim).0 turn.table.targets targets_after (team_of turn) (slot_of turn.table t) opened turn.out turn.filled output)
+      subst (λ (t : ℕ). OpenedAs (settled_by turn.words (ticket_said (slot_of turn.table t)) turn.ranks (frame_in turn) turn.aim).0 (slot_of turn.table t).targets targets_after (slot_of turn.table t).ticket opened turn.out turn.filled output)
       slotted left_as
 
   -- The slot as it is stored.
-  frame_turned : (left : Slot.Ticket) → slot_after opened (slot_of turn.table (team_of turn)) ≡ left
-      → Goes turn.ranks turn.input turn.long turn.all turn.known turn.words output (table_with (set turn.table.slots (team_of turn) left) targets_after) (turn.at + turn.size) opened.filled
+  frame_turned : (left : Slot.Ticket) → slot_after opened (slot_of turn.table (team_of turn)).ticket ≡ left
+      → Goes turn.ranks turn.input turn.long turn.all turn.known turn.words output (table_with (set turn.table.slots (team_of turn) (slot_with left targets_after))) (turn.at + turn.size) opened.filled
   frame_turned left is =
       turned turn left targets_after turn.words opened.filled output
-      (ap (gathered targets_after (team_of turn)) (sym is) ∙ frame_as.ticket_left)
-      frame_as.others
+      (ap (gathered targets_after) (sym is) ∙ frame_as.ticket_left)
       (sym (no_word turn.words (ticket_in turn) turn.ranks (frame_in turn) turn.aim other))
       turn.goes.book
       frame_as.answered
 
   -- A ticket is opened,
   pub opened_on : (after : Slot.Ticket) → opened.ticket ≡ Some after → team < team_count → (value : ℕ) → value ≡ quick_for turn.known after
-      → Goes turn.ranks turn.input turn.long turn.all turn.known turn.words output (table_with (set turn.table.slots team after) targets_after) (turn.at + turn.size) opened.filled
-      × QuickSlots turn.known (set turn.table.slots team after) (set quick team value)
+      → Goes turn.ranks turn.input turn.long turn.all turn.known turn.words output (table_with (set turn.table.slots team (slot_with after targets_after))) (turn.at + turn.size) opened.filled
+      × QuickSlots turn.known (set turn.table.slots team (slot_with after targets_after)) (set quick team value)
   opened_on after opens inside value number = (
-    subst (λ (t : ℕ). Goes turn.ranks turn.input turn.long turn.all turn.known turn.words output (table_with (set turn.table.slots t after) targets_after) (turn.at + turn.size) opened.filled) (sym slotted)
-        (frame_turned after (ap (λ (o : Option Slot.Ticket). unwrap_or o (slot_of turn.table (team_of turn))) opens)),
-    quick_stored turn.known turn.table.slots quick team value after inside kept number,
+    subst (λ (t : ℕ). Goes turn.ranks turn.input turn.long turn.all turn.known turn.words output (table_with (set turn.table.slots t (slot_with after targets_after))) (turn.at + turn.size) opened.filled) (sym slotted)
+        (frame_turned after (ap (λ (o : Option Slot.Ticket). unwrap_or o (slot_of turn.table (team_of turn)).ticket) opens)),
+    quick_stored turn.known turn.table.slots quick team value (slot_with after targets_after) inside kept number,
   )
 
   -- or none is.
-  pub unopened_on : opened.ticket ≡ None → Goes turn.ranks turn.input turn.long turn.all turn.known turn.words output (table_with turn.table.slots targets_after) (turn.at + turn.size) opened.filled
-  unopened_on closed =
-      subst (λ (l : List Slot.Ticket). Goes turn.ranks turn.input turn.long turn.all turn.known turn.words output (table_with l targets_after) (turn.at + turn.size) opened.filled) (set-get_or turn.table.slots (team_of turn) no_slot)
-      (frame_turned (slot_of turn.table (team_of turn)) (ap (λ (o : Option Slot.Ticket). unwrap_or o (slot_of turn.table (team_of turn))) closed))
+  pub unopened_on : opened.ticket ≡ None → team < team_count
+      → Goes turn.ranks turn.input turn.long turn.all turn.known turn.words output (table_with (set turn.table.slots team (slot_with (slot_of turn.table team).ticket targets_after))) (turn.at + turn.size) opened.filled
+      × QuickSlots turn.known (set turn.table.slots team (slot_with (slot_of turn.table team).ticket targets_after)) quick
+  unopened_on closed inside = (
+    subst (λ (t : ℕ). Goes turn.ranks turn.input turn.long turn.all turn.known turn.words output (table_with (set turn.table.slots t (slot_with (slot_of turn.table t).ticket targets_after))) (turn.at + turn.size) opened.filled) (sym slotted)
+        (frame_turned (slot_of turn.table (team_of turn)).ticket (ap (λ (o : Option Slot.Ticket). unwrap_or o (slot_of turn.table (team_of turn)).ticket) closed)),
+    quick_same turn.known turn.table.slots quick team (slot_with (slot_of turn.table team).ticket targets_after) inside kept refl,
+  )

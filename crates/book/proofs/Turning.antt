@@ -9,10 +9,11 @@ use borrow.Author.Tests.{lt-ltb}
 use lib.ListN.{length, set, take, drop}
 use Rattle.words.specs.Words.{Words, words_in_book}
 use Rattle.legs.specs.Positions.{Ranks, Accepted}
+use Rattle.tickets.specs.declared.Target.{Target}
 use Rattle.tickets.specs.declared.Ticket as Slot
 use Rattle.tickets.specs.declared.Tickets as Table
 use Rattle.tickets.specs.Tickets.{Ticket, ticket_of, with_ticket, SlotWellMade, TableWellMade}
-use Rattle.tickets.specs.Table.{gathered, table_with, table_of, slot_of, ElsewhereSame}
+use Rattle.tickets.specs.Table.{gathered, ticket_said, table_with, table_of, slot_of}
 use Rattle.tickets.proofs.Tables.{slot_gathered}
 use Rattle.tickets.proofs.MadeTables.{with_well_made}
 use Rattle.frames.specs.Numbers.{Bytes, are_bytes}
@@ -27,7 +28,7 @@ use Rattle.calls.proofs.WellMadeTables.{bytes_before, settled_well_made}
 use Rattle.calls.proofs.Streaming as streaming
 use Rattle.dispatch.specs.Ahead.{frame_at, FrameAhead}
 use Rattle.dispatch.proofs.Aiming.{slot_below}
-use Rattle.book.proofs.Stored.{stored_anew}
+use Rattle.book.proofs.Stored.{slot_with, stored_anew}
 
 -- What the definition makes of what is left, for as many frames as may come: at most one for each byte.
 pub record Left (ranks : Ranks) (input : Bytes) (all : Streamed × Words × Bytes) (words : Words) (out : Bytes) (table : Table.Tickets) (at filled : ℕ) : Type 0 where
@@ -83,7 +84,7 @@ abbrev pub team_of : Turn → ℕ
 team_of turn = way.slot_of turn.aim
 
 abbrev pub ticket_in : Turn → Ticket
-ticket_in turn = gathered turn.table.targets (team_of turn) (slot_of turn.table (team_of turn))
+ticket_in turn = ticket_said (slot_of turn.table (team_of turn))
 
 -- What the aimed frame settles.
 abbrev pub settled_in : Turn → Settled × Words
@@ -95,15 +96,15 @@ slot_known_made turn known =
     subst SlotWellMade (slot_gathered turn.table (team_of turn)) (turn.goes.made known (team_of turn) (slot_below (frame_in turn) turn.aim turn.aim_known))
 
 -- By what the frame leaves, the loop goes on.
-module _ (turn : Turn) (slot : Slot.Ticket) (targets : List ℕ) (after : Words) (place : ℕ) (output : Bytes)
-    (left : gathered targets (team_of turn) slot ≡ (settled_in turn).0.ticket) (others : ElsewhereSame turn.table.targets targets (team_of turn))
+module _ (turn : Turn) (slot : Slot.Ticket) (targets : List Target) (after : Words) (place : ℕ) (output : Bytes)
+    (left : gathered targets slot ≡ (settled_in turn).0.ticket)
     (worded : after ≡ (settled_in turn).1) (whole : length after ≡ words_in_book)
     (answered : PutAt turn.out turn.filled (answer_frame (settled_in turn).0.answer) place output) where
   abbrev table_after : Table.Tickets
-  table_after = table_with (set turn.table.slots (team_of turn) slot) targets
+  table_after = table_with (set turn.table.slots (team_of turn) (slot_with slot targets))
 
   stored : table_of table_after ≡ with_ticket (table_of turn.table) (team_of turn) (settled_in turn).0.ticket
-  stored = stored_anew turn.table.slots turn.table.targets targets (team_of turn) slot others ∙ ap (with_ticket (table_of turn.table) (team_of turn)) left
+  stored = stored_anew turn.table (team_of turn) slot targets ∙ ap (with_ticket (table_of turn.table) (team_of turn)) left
 
   frame_is : frame_in turn ≡ take turn.size (drop turn.at turn.input)
   frame_is = ap (λ (k : ℕ). take k (drop turn.at turn.input)) (streaming.add_less turn.at turn.size)
@@ -114,7 +115,7 @@ module _ (turn : Turn) (slot : Slot.Ticket) (targets : List ℕ) (after : Words)
   settles : settled_in turn ≡ settled_by turn.words (ticket_of (table_of turn.table) (team_of turn)) turn.ranks (take turn.size (drop turn.at turn.input)) turn.aim
   settles i = settled_by turn.words (slotted i) turn.ranks (frame_is i) turn.aim
 
-  pub turned : Goes turn.ranks turn.input turn.long turn.all turn.known after output (table_with (set turn.table.slots (team_of turn) slot) targets) (turn.at + turn.size) place
+  pub turned : Goes turn.ranks turn.input turn.long turn.all turn.known after output (table_with (set turn.table.slots (team_of turn) (slot_with slot targets))) (turn.at + turn.size) place
   turned =
       let ((counted, fits), (filled, long)) = answered in
       let before = turn.goes.left in

@@ -2,7 +2,8 @@
 use Rattle.std.specs.Prelude.{ℕ, ◌<◌, ◌≡◌, Bool, false, cond, List, eqb, length, get_or, Result, Ok, Err}
 use Rattle.words.specs.Words.{team_count}
 use Rattle.tickets.specs.declared.Ticket as Slot
-use Rattle.tickets.specs.Table.{no_slot}
+use Rattle.tickets.specs.declared.Slot as Kept
+use Rattle.tickets.specs.Table.{absent_slot}
 use Rattle.frames.specs.Requests.{step_kind}
 use Rattle.calls.specs.Way.{Aim}
 use Rattle.quick.specs.Quick.{quick_swaps}
@@ -12,10 +13,10 @@ abbrev pub quick_for : Bool → Slot.Ticket → ℕ
 quick_for known slot = cond known (quick_swaps slot) 0
 
 -- The same for each slot.
-pub record QuickSlots (known : Bool) (slots : List Slot.Ticket) (quick : List ℕ) : Type 0 where
+pub record QuickSlots (known : Bool) (slots : List Kept.Slot) (quick : List ℕ) : Type 0 where
   pub slots_room : length slots ≡ team_count
   pub room : length quick ≡ team_count
-  pub each : (team : ℕ) → team < team_count → get_or quick team 0 ≡ quick_for known (get_or slots team no_slot)
+  pub each : (team : ℕ) → team < team_count → get_or quick team 0 ≡ quick_for known (get_or slots team absent_slot).ticket
 
 -- Whether a frame is a team's step, by its aim.
 abbrev pub is_step_by : Result Aim ℕ → Bool

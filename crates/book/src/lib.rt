@@ -3,14 +3,14 @@
 
 ghost use Rattle.std.specs.Prelude.{◌≡◌, Bool, true, ℕ, ◌≤◌, ◌<◌, length};
 ghost use Rattle.words.specs.Words.{words_in_book};
-ghost use Rattle.tickets.specs.Table.{table_with, table_of};
+ghost use Rattle.tickets.specs.Table.{table_of};
 ghost use Rattle.frames.specs.Refusals.{numbered, refusal_in};
 ghost use Rattle.calls.specs.Call.{call_of};
 ghost use Rattle.calls.specs.Returned.{reply_of, returned_refusal};
 ghost use Rattle.calls.specs.Stream.{streamed, streamed_of, stream_from, stream_of};
 ghost use Rattle.calls.specs.Way.{aim_numbered, AimKnown, slot_of, settled_by};
 ghost use Rattle.replies.specs.Leaving.{RoomAt};
-ghost use Rattle.tickets.specs.Table.{gathered, ElsewhereSame};
+ghost use Rattle.tickets.specs.Table.{gathered};
 ghost use Rattle.handlers.specs.Settling.{SettledAs};
 ghost use Rattle.book.specs.Quickly.{quick_for, QuickSlots, is_step_by};
 
@@ -21,7 +21,7 @@ use handlers::{other_frame, other_step};
 use legs::AcceptedRanks;
 use quick::Tried;
 use replies::Left;
-use tickets::{Ticket, Tickets};
+use tickets::{Slot, Target, Ticket, Tickets};
 use words::Limits;
 
 // Whether a frame is a team's step.
@@ -40,20 +40,19 @@ fn is_step(aim: Result<Aim, Refusal>) -> bool
 // What a frame leaves in its slot, the table not known to be well made, and its answer at the front of the output.
 fn answer(
     book: &mut [u64],
-    targets: &mut [u64; Tickets::NUMBERS],
+    targets: &mut [Target; Tickets::ROOM],
     ranks: &AcceptedRanks,
     ticket: Ticket,
-    slot: usize,
+    team: usize,
     frame: &[u8],
     aim: Result<Aim, Refusal>,
     out: &mut [u8],
 ) -> Left
-    requires { (length book.old ≡ words_in_book) × AimKnown frame.now (aim_numbered aim) × (slot ≡ slot_of (aim_numbered aim)) × RoomAt out.old 0 }
-    ensures left { SettledAs (settled_by book.old (gathered targets.old slot ticket) ranks.now frame.now (aim_numbered aim)) targets.new slot result.ticket book.new out.old 0 result.filled out.new }
-    ensures others { ElsewhereSame targets.old targets.new slot }
+    requires { (length book.old ≡ words_in_book) × AimKnown frame.now (aim_numbered aim) × (team ≡ slot_of (aim_numbered aim)) × RoomAt out.old 0 }
+    ensures { SettledAs (settled_by book.old (gathered targets.old ticket) ranks.now frame.now (aim_numbered aim)) targets.new result.ticket book.new out.old 0 result.filled out.new }
 {
     if is_step(aim) {
-        return other_step(book, targets, ticket, slot, Tried::Untried, false, out, 0);
+        return other_step(book, targets, ticket, team, Tried::Untried, false, out, 0);
     }
     let opened = other_frame(book, targets, ranks, ticket, frame, aim, out, 0);
     Left {
@@ -94,23 +93,22 @@ pub fn call(
         return turned_away(tickets, Refusal::Output);
     }
     let aim = dispatch::aim_of(frame);
-    let slot = dispatch::slot_of(aim);
-    let ticket = tickets.slots[slot];
+    let team = dispatch::slot_of(aim);
+    let slot = &mut tickets.slots[team];
     let left = answer(
         book,
-        &mut tickets.targets,
+        &mut slot.targets,
         &accepted,
-        ticket,
-        slot,
+        slot.ticket,
+        team,
         frame,
         aim,
         out,
     );
-    let after = left.ticket;
-    tickets.slots[slot] = after;
+    slot.ticket = left.ticket;
     Reply {
         written: Ok(left.filled),
-        tickets: tickets,
+        tickets,
     }
 }
 
@@ -125,10 +123,10 @@ fn quick_of(ticket: Ticket, known: bool) -> u16
 }
 
 // The same for each slot.
-fn all_quick(slots: [Ticket; Limits::TEAMS], known: bool) -> [u16; Limits::TEAMS]
+fn all_quick(slots: [Slot; Limits::TEAMS], known: bool) -> [u16; Limits::TEAMS]
     ensures { QuickSlots known slots result }
 {
-    slots.map(|ticket| quick_of(ticket, known))
+    slots.map(|slot| quick_of(slot.ticket, known))
 }
 
 fn stopped(tickets: Tickets, consumed: usize, written: usize, stop: Stop) -> Streamed
@@ -142,22 +140,12 @@ fn stopped(tickets: Tickets, consumed: usize, written: usize, stop: Stop) -> Str
     }
 }
 
-// The table of these slots and targets.
-fn table_with(slots: [Ticket; Limits::TEAMS], targets: [u64; Tickets::NUMBERS]) -> Tickets
-    ensures { result ≡ table_with slots targets }
-{
-    Tickets {
-        slots: slots,
-        targets: targets,
-    }
-}
-
-// All frames, one after another, the table in two locals. An edit's claims and puts that go through, as most frames are, have
-// the fast way; where all tickets are well made at the start they stay so, and no step tests one again. The look at the ranks
-// tells the proof that they are accepted.
+// All frames, one after another. An edit's claims and puts that go through, as most frames are, have the fast way; where all
+// tickets are well made at the start they stay so, and no step tests one again. The look at the ranks tells the proof that
+// they are accepted. What is known of a slot in this stream alone stands beside the table, which is returned as it is.
 fn answer_frames(
     book: &mut [u64],
-    tickets: Tickets,
+    mut tickets: Tickets,
     ranks: &AcceptedRanks,
     input: &[u8],
     out: &mut [u8],
@@ -166,47 +154,63 @@ fn answer_frames(
     ensures { ((result.consumed ≤ length input.now) × (result.written ≤ length out.old)) × ((streamed_of result, book.new, out.new) ≡ stream_from (length input.now) book.old (table_of tickets) ranks.now input.now out.old 0 0) }
 {
     let _ = &ranks.numbers;
-    let mut slots = tickets.slots;
-    let mut targets = tickets.targets;
-    let known = making::all_well_made(slots, &targets);
-    let mut quick = all_quick(slots, known);
+    let known = making::all_well_made(&tickets.slots);
+    let mut quick = all_quick(tickets.slots, known);
     let mut at: usize = 0;
     let mut filled: usize = 0;
     // A `while let` would lose the stop, which is returned.
     loop {
         let next = match dispatch::next_at(input, at, out.len() - filled) {
             Ok(next) => next,
-            Err(stop) => return stopped(table_with(slots, targets), at, filled, stop),
+            Err(stop) => return stopped(tickets, at, filled, stop),
         };
         match next {
             Ahead::Step(team) => {
                 at += Frame::STEP;
-                let slot = team as usize;
-                let tried = quick::try_quick(book, &targets, slots[slot], slot, quick[slot]);
-                let ticket = slots[slot];
+                let team = team as usize;
+                let slot = &mut tickets.slots[team];
+                let ticket = slot.ticket;
+                let tried = quick::try_quick(book, &slot.targets, ticket, team, quick[team]);
                 if let Tried::Went(claims) = tried {
                     let after = quick::advanced(ticket, claims);
-                    slots[slot] = after;
+                    slot.ticket = after;
                     filled = quick::put_told(out, filled, claims, after);
                     continue;
                 }
-                let left = other_step(book, &mut targets, ticket, slot, tried, known, out, filled);
-                let after = left.ticket;
-                slots[slot] = after;
-                quick[slot] = quick_of(after, known);
+                let left = other_step(
+                    book,
+                    &mut slot.targets,
+                    ticket,
+                    team,
+                    tried,
+                    known,
+                    out,
+                    filled,
+                );
+                slot.ticket = left.ticket;
+                quick[team] = quick_of(left.ticket, known);
                 filled = left.filled;
             }
             Ahead::Other(size) => {
                 let frame = &input[at..at + size];
                 at += size;
                 let aim = dispatch::aim_of(frame);
-                let slot = dispatch::slot_of(aim);
-                let ticket = slots[slot];
-                let left = other_frame(book, &mut targets, ranks, ticket, frame, aim, out, filled);
+                let team = dispatch::slot_of(aim);
+                let slot = &mut tickets.slots[team];
+                let left = other_frame(
+                    book,
+                    &mut slot.targets,
+                    ranks,
+                    slot.ticket,
+                    frame,
+                    aim,
+                    out,
+                    filled,
+                );
                 filled = left.filled;
                 if let Some(after) = left.ticket {
-                    slots[slot] = after;
-                    quick[slot] = quick_of(after, known);
+                    slot.ticket = after;
+                    quick[team] = quick_of(after, known);
                 }
             }
         }

@@ -6,7 +6,7 @@ use mathlib.Core.List.{List, [], ◌∷◌}
 use mathlib.Core.Option.{Option, none, some}
 use native.Mathlib.Decide.{ℕ_discrete, dec_lt}
 use native.Mathlib.Omega.{arith}
-use lib.ListN.{length, length-set, get_or-eq_default}
+use lib.ListN.{length, length-map, length-set, get_or-eq_default}
 use lib.Seq.{get_or-set_same, get_or-set_other}
 use borrow.Author.Tests.{lt-ltb, le-ltb, not-false}
 use Rattle.words.specs.Words.{Words, most_targets, team_count}
@@ -14,8 +14,8 @@ use Rattle.tickets.specs.Tickets.{Ticket, Tickets, no_ticket, ticket_of, with_ti
 use Rattle.tickets.specs.declared.StepAnswer.{StepAnswer}
 use Rattle.tickets.specs.declared.StepAnswer.TheVariants.{Claimed, Waiting, Found, Put, Returned, Granted, Stale, Seen}
 use Rattle.tickets.specs.Steps.{most_tries, one_more_try, step_of}
-use Rattle.tickets.specs.declared.Ticket as Slot
-use Rattle.tickets.specs.Table.{stands_in, standing, gathered, gathered_from, slot_of}
+use Rattle.tickets.specs.declared.Slot as Kept
+use Rattle.tickets.specs.Table.{stands_in, standing, gathered, ticket_said, slot_of}
 use Rattle.tickets.specs.Invariant.{TriesTold}
 use Rattle.tickets.proofs.Tables.{slot_gathered}
 use Rattle.tickets.proofs.Tries.{tries_counted}
@@ -78,23 +78,18 @@ standing_inside table teams team stands = elim (dec_lt team team_count) [
 ]
 
 -- A slot of the code's says a ticket with its tries, or none.
-gathered_fits : (targets : List ℕ) (team : ℕ) (slot : Slot.Ticket) → slot.tries ≤ most_tries → Fits (gathered targets team slot)
+said_fits : (slot : Kept.Slot) → slot.ticket.tries ≤ most_tries → Fits (ticket_said slot)
 unfolding gathered
-gathered_fits targets team slot fits = by (stands_in slot)
+said_fits slot fits = by (stands_in slot.ticket)
   where
-    by : (stands : Bool) → Fits (cond stands (standing targets team slot) no_ticket)
+    by : (stands : Bool) → Fits (cond stands (standing slot.targets slot.ticket) no_ticket)
     by true = fits
     by false = none_fits
 
-gathered_many : (targets : List ℕ) (team : ℕ) (slots : List Slot.Ticket) → length (gathered_from targets team slots) ≡ length slots
-unfolding gathered_from
-gathered_many targets team [] = refl
-gathered_many targets team (slot ∷ slots) = ap suc (gathered_many targets (team + 1) slots)
-
 pub code_tables_fit : CodeTablesFit
 code_tables_fit table teams tries = record {
-  teams = gathered_many table.targets 0 table.slots ∙ teams;
-  tries = λ team inside. subst Fits (sym (slot_gathered table team)) (gathered_fits table.targets team (slot_of table team) (tries team inside));
+  teams = length-map table.slots ticket_said ∙ teams;
+  tries = λ team inside. subst Fits (sym (slot_gathered table team)) (said_fits (slot_of table team) (tries team inside));
 }
 
 -- Another ticket in one slot.

@@ -27,7 +27,7 @@ pub record TableFits (tickets : Tickets) : Type 0 where
 -- Statement: what every table of the code says is one, whatever its targets are.
 abbrev pub CodeTablesFit : Type 0
 CodeTablesFit =
-    (table : Code.Tickets) → length table.slots ≡ team_count → ((team : ℕ) → team < team_count → (slot_of table team).tries ≤ most_tries)
+    (table : Code.Tickets) → length table.slots ≡ team_count → ((team : ℕ) → team < team_count → (slot_of table team).ticket.tries ≤ most_tries)
     → TableFits (table_of table)
 
 -- The answers that fit a request: an edit or a view gets Standing with the number of its targets, a step a step's answer, a look Value or Held.

@@ -29,15 +29,18 @@ struct Slot<'a> {
 impl Slot<'_> {
     const NUMBER: usize = 8;
 
-    // The slot of a team that isn't one of sixteen is passed over, and so is a number that the table has no room for.
+    // The slot of a team that isn't one of sixteen is passed over, and so is a number that the table has no room for: what does not fit
+    // in the team's room is in that of the teams behind it.
     fn put_into(self, tickets: &mut Tickets) {
         if Limits::TEAMS <= self.team {
             return;
         }
-        tickets.slots[self.team] = self.ticket;
-        let targets = &mut tickets.targets[Tickets::place(self.team, 0)..];
-        for (target, number) in targets.iter_mut().zip(Records::of(self.numbers)) {
-            *target = number;
+        tickets.slots[self.team].ticket = self.ticket;
+        let first = self.team * Room::NUMBERS;
+        for (place, number) in (first..).zip(Records::of(self.numbers)) {
+            if let Some(slot) = tickets.slots.get_mut(place / Room::NUMBERS) {
+                desk::set_number(&mut slot.targets, place % Room::NUMBERS, number);
+            }
         }
     }
 }

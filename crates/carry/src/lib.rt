@@ -13,7 +13,7 @@ ghost use Rattle.carry.specs.Writing.{moved_word, with_newer, newers_set, LinksF
 
 use frames::Refusal;
 use making::any_stands;
-use sound::{Scratch, is_sound};
+use sound::is_plain;
 use tickets::Tickets;
 use words::{LegLayout, Limits, link_word_in, newer_word};
 
@@ -44,7 +44,8 @@ fn move_words(old: &[u64; Limits::WORDS], second: &mut [u64; Limits::WORDS])
     }
 }
 
-// The leg that a leg links to, if there is one, has that leg as its newer one.
+// The leg that a leg links to, if there is one, has that leg as its newer one. A link's word holds 0 where there is none: an
+// Option would be made of it only to be taken apart here.
 fn set_newer(second: &mut [u64; Limits::WORDS], older: u64, leg: u16)
     requires { older ≤ last_leg }
     ensures { second.new ≡ with_newer second.old older leg }
@@ -67,27 +68,15 @@ fn set_newers(old: &[u64; Limits::WORDS], second: &mut [u64; Limits::WORDS])
     }
 }
 
-// The check of the old book in its own layout, in bytes of its own. One function with `sound::is_plain` would take layout and
-// size side by side.
-fn is_sound_old(old: &[u64; Limits::WORDS]) -> bool
-    ensures { result ≡ is_sound_in ThreeWords old.now }
-{
-    let mut bits = [0u8; Scratch::OLD_BYTES];
-    is_sound(old, &mut bits, LegLayout::ThreeWords)
-}
-
 // Whether a leg that the new layout does not have is in use: in a sound book its place tells.
 fn has_leg_above(old: &[u64; Limits::WORDS]) -> bool
     requires { is_sound_in ThreeWords old.now ≡ true }
     ensures { result ≡ leg_above (plain_in ThreeWords old.now) }
 {
-    for leg in Limits::LAST_LEG + 1..=Limits::LAST_OLD_LEG {
+    (Limits::LAST_LEG + 1..Limits::LAST_OLD_LEG + 1).any(|leg| {
         let at = link_word_in(LegLayout::ThreeWords, leg) + 1;
-        if old[at as usize] != 0 {
-            return true;
-        }
-    }
-    false
+        old[at as usize] != 0
+    })
 }
 
 // Makes the second book the layout in force of the old book's lists, unless it is refused. Nothing is written before all
@@ -101,11 +90,10 @@ pub fn carry_over(old: &[u64], second: &mut [u64], tickets: Tickets) -> Result<(
     let Some(second) = second.as_mut_array::<{ Limits::WORDS }>() else {
         return Err(Refusal::Book);
     };
-    let slots = tickets.slots;
-    if any_stands(slots) {
+    if any_stands(&tickets.slots) {
         return Err(Refusal::TicketStands);
     }
-    if !is_sound_old(old) {
+    if !is_plain(old, LegLayout::ThreeWords) {
         return Err(Refusal::Unsound);
     }
     if has_leg_above(old) {

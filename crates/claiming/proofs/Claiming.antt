@@ -20,27 +20,27 @@ use Rattle.replies.proofs.Standing.{phase_tells, is_standing, target_read}
 use Rattle.replies.proofs.Stepping.{step_made, step_left}
 use Rattle.claiming.specs.Missing.{missed_by, MissesIn, MissLeft}
 
-module _ (words : Words) (targets : List ℕ) (team : ℕ) (slot : Slot.Ticket) (out : Bytes) (at : ℕ) (known : StepsFrom Claiming words targets team slot out at) where
+module _ (words : Words) (targets : List Target) (team : ℕ) (slot : Slot.Ticket) (out : Bytes) (at : ℕ) (known : StepsFrom Claiming words targets team slot out at) where
   -- The next target is the first not claimed.
   pub next_unclaimed : slot.claimed < slot.n
   next_unclaimed = (phase_tells slot Claiming known.phase_known).1.1
 
   -- What a claim that misses asks.
-  pub misses_in : MissesIn targets team slot out at
+  pub misses_in : MissesIn targets slot out at
   misses_in =
       let steps = known.steps_in in
-      record { team_known = steps.team_known; claiming = known.phase_known; made = steps.made; room_at = record { inside = steps.inside; room = steps.room } }
+      record { claiming = known.phase_known; made = steps.made; room_at = record { inside = steps.inside; room = steps.room } }
 
   module _ (next : Target) (mark found : ℕ) (after : Words) (left : Slot.Ticket) (place : ℕ) (output : Bytes)
-      (next_is : next ≡ target_standing targets team slot.claimed)
+      (next_is : next ≡ target_standing targets slot.claimed)
       (marks : mark ≡ mark_of team)
       (finds : found ≡ (swap_of words next.word next.quoted mark).found)
       (leaves : after ≡ (swap_of words next.word next.quoted mark).words) where
     abbrev there : Ticket
-    there = standing targets team slot
+    there = standing targets slot
 
     next_read : next ≡ target_at there slot.claimed
-    next_read = next_is ∙ sym (target_read targets team slot known.steps_in.made slot.claimed next_unclaimed)
+    next_read = next_is ∙ sym (target_read targets slot known.steps_in.made slot.claimed next_unclaimed)
 
     swap_is : tries next.word next.quoted mark ≡ swap_tried_in Claiming words there team
     swap_is = λ i. tries (next_read i).word (next_read i).quoted (marks i)
@@ -49,24 +49,24 @@ module _ (words : Words) (targets : List ℕ) (team : ℕ) (slot : Slot.Ticket) 
     pub edit_claims : found ≡ next.quoted
         → left ≡ tried_slot slot slot.kind (slot.claimed + 1) slot.done
         → Answered out at (Answer.Claimed left.claimed) place output
-        → LeftBy (step_of words (gathered targets team slot) team) targets team left after out at place output
+        → LeftBy (step_of words (gathered targets slot) team) targets left after out at place output
     edit_claims same is answer =
         let tells = phase_tells slot Claiming known.phase_known in
         step_left Claiming words targets team slot out at known _ found after (claimed there) targets left place output
         swap_is finds leaves
         (sym (settled_claimed there found (same ∙ ap (λ (one : Target). one.quoted) next_read)))
-        (ap (gathered targets team) is
-        ∙ gathered_claimed targets team slot tells.0 tells.1.0 tells.1.1
-        ∙ ap (λ (t : Ticket). (claimed t).ticket) (is_standing targets team slot known.steps_in.made))
+        (ap (gathered targets) is
+        ∙ gathered_claimed targets slot tells.0 tells.1.0 tells.1.1
+        ∙ ap (λ (t : Ticket). (claimed t).ticket) (is_standing targets slot known.steps_in.made))
         (subst (λ (s : Slot.Ticket). Answered out at (Answer.Claimed s.claimed) place output) is answer)
 
     -- or it is not.
     pub edit_misses : (found ≡ next.quoted → ⊥)
-        → MissLeft targets team slot found left out at place output
-        → LeftBy (step_of words (gathered targets team slot) team) targets team left after out at place output
+        → MissLeft targets slot found left out at place output
+        → LeftBy (step_of words (gathered targets slot) team) targets left after out at place output
     edit_misses other missed =
-        subst (λ step. LeftBy step targets team left after out at place output)
-        ((λ i. (missed_by (is_standing targets team slot known.steps_in.made i) found, after))
+        subst (λ step. LeftBy step targets left after out at place output)
+        ((λ i. (missed_by (is_standing targets slot known.steps_in.made i) found, after))
         ∙ step_made Claiming words targets team slot out at known _ found after (missed_by there found) swap_is finds leaves
         (sym (ap (λ b. cond b (claimed there) (missed_by there found)) (ne_eqb found _ (λ same. other (same ∙ sym (ap (λ (one : Target). one.quoted) next_read)))))))
         (missed after)

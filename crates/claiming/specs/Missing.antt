@@ -1,8 +1,9 @@
 -- A claim of an edit that found something else than quoted.
-use Rattle.std.specs.Prelude.{ℕ, ◌<◌, ◌≡◌, true, cond, List, eqb}
-use Rattle.words.specs.Words.{Words, team_count, is_held}
+use Rattle.std.specs.Prelude.{ℕ, ◌≡◌, true, cond, List, eqb}
+use Rattle.words.specs.Words.{Words, is_held}
 use Rattle.tickets.specs.declared.Kind.TheVariants.{Stale}
 use Rattle.tickets.specs.declared.Phase.TheVariants.{Claiming}
+use Rattle.tickets.specs.declared.Target.{Target}
 use Rattle.tickets.specs.declared.Ticket as Slot
 use Rattle.tickets.specs.declared.StepAnswer.{StepAnswer}
 use Rattle.tickets.specs.declared.StepAnswer.TheVariants as Answer
@@ -24,13 +25,12 @@ abbrev pub differed_answer : Slot.Ticket → ℕ → StepAnswer
 differed_answer slot word = cond (eqb slot.claimed 0) (Answer.Stale word (one_more_try slot.tries)) (Answer.Found word)
 
 -- What is known where a claim misses: the ticket claims, is well made, and there is room for an answer.
-pub record MissesIn (targets : List ℕ) (team : ℕ) (slot : Slot.Ticket) (out : Bytes) (at : ℕ) : Type 0 where
-  pub team_known : team < team_count
+pub record MissesIn (targets : List Target) (slot : Slot.Ticket) (out : Bytes) (at : ℕ) : Type 0 where
   pub claiming : phase_of slot ≡ Claiming
-  pub made : well_made (gathered targets team slot) ≡ true
+  pub made : well_made (gathered targets slot) ≡ true
   pub room_at : RoomAt out at
 
 -- What it leaves, whatever the words are, which stay.
-abbrev pub MissLeft : List ℕ → ℕ → Slot.Ticket → ℕ → Slot.Ticket → Bytes → ℕ → ℕ → Bytes → Type 0
-MissLeft targets team slot found left out at place output =
-    (words : Words) → LeftBy (missed_by (gathered targets team slot) found, words) targets team left words out at place output
+abbrev pub MissLeft : List Target → Slot.Ticket → ℕ → Slot.Ticket → Bytes → ℕ → ℕ → Bytes → Type 0
+MissLeft targets slot found left out at place output =
+    (words : Words) → LeftBy (missed_by (gathered targets slot) found, words) targets left words out at place output

@@ -9,7 +9,7 @@ ghost use Rattle.replies.specs.Leaving.{RoomAt, Answered, StepsFrom, LeftBy};
 ghost use Rattle.claiming.specs.Missing.{differed_slot, differed_answer, MissesIn, MissLeft};
 
 use replies::Left;
-use tickets::{StepAnswer, Ticket, Tickets};
+use tickets::{StepAnswer, Target, Ticket, Tickets};
 
 // Found stale: at once where nothing is claimed, else it gives back first.
 fn differed(ticket: Ticket, word: u16, out: &mut [u8], at: usize) -> Left
@@ -27,41 +27,40 @@ fn differed(ticket: Ticket, word: u16, out: &mut [u8], at: usize) -> Left
 
 // A claim of an edit that found something else than quoted: it waits, or is found stale.
 pub fn missed(
-    targets: &[u64; Tickets::NUMBERS],
+    targets: &[Target; Tickets::ROOM],
     ticket: Ticket,
-    slot: usize,
     found: u64,
     out: &mut [u8],
     at: usize,
 ) -> Left
-    requires { MissesIn targets.now slot ticket out.old at }
-    ensures { MissLeft targets.now slot ticket found result.ticket out.old at result.filled out.new }
+    requires { MissesIn targets.now ticket out.old at }
+    ensures { MissLeft targets.now ticket found result.ticket out.old at result.filled out.new }
 {
-    let target = replies::target_at(targets, slot, ticket.claimed);
+    let target = replies::target_at(targets, ticket.claimed);
     if words::is_held(found) {
-        return replies::waited(ticket, target.word, found, out, at);
+        return replies::waited(ticket, target.word as u16, found, out, at);
     }
-    differed(ticket, target.word, out, at)
+    differed(ticket, target.word as u16, out, at)
 }
 
 // The next claim of an edit: one swap.
 pub fn claim(
     book: &mut [u64],
-    targets: &[u64; Tickets::NUMBERS],
+    targets: &[Target; Tickets::ROOM],
     ticket: Ticket,
-    slot: usize,
+    team: usize,
     out: &mut [u8],
     at: usize,
 ) -> Left
-    requires { StepsFrom Claiming book.old targets.now slot ticket out.old at }
-    ensures { LeftBy (step_of book.old (gathered targets.now slot ticket) slot) targets.now slot result.ticket book.new out.old at result.filled out.new }
+    requires { StepsFrom Claiming book.old targets.now team ticket out.old at }
+    ensures { LeftBy (step_of book.old (gathered targets.now ticket) team) targets.now result.ticket book.new out.old at result.filled out.new }
 {
-    let target = replies::target_at(targets, slot, ticket.claimed);
-    let mark = words::mark(slot as u16);
+    let target = replies::target_at(targets, ticket.claimed);
+    let mark = words::mark(team as u16);
     let found = words::conditional_swap(book, target.word as usize, target.quoted, mark).found;
     if found == target.quoted {
         let after = ticket.claim();
         return replies::leave(after, StepAnswer::Claimed(after.claimed), out, at);
     }
-    missed(targets, ticket, slot, found, out, at)
+    missed(targets, ticket, found, out, at)
 }

@@ -2,24 +2,35 @@
 use Prim.Native.Nat.{ℕ, ◌≤◌}
 use mathlib.Core.Path.{◌≡◌, refl, sym, ap, subst, ◌∙◌}
 use mathlib.Core.List.{List, [], ◌∷◌}
-use mathlib.Core.Bool.{Bool, true, false, cond, false≢true}
+use mathlib.Core.Bool.{Bool, true, false, cond, ◌&&◌, false≢true}
 use native.Mathlib.Omega.{arith}
 use native.Mathlib.Decide.{ℕ_discrete}
+use mir.Syntax.{w16}
+use mir.Val.{to_z, of_z}
 use borrow.Author.Tests.{leb-true, le-leb, eq-eqb, ne_eqb}
 use lib.Dec.{eqb, leb}
 use lib.IntN.{ℤ}
 use Rattle.std.specs.Prelude.{Option, Some, None}
-use Rattle.words.specs.Tests.{within}
+use Rattle.std.specs.declared.cmp.Ordering.{Ordering}
+use Rattle.std.specs.Ordering.{nat_cmp, partial_le, partial_lt}
+use Rattle.std.specs.declared.ops.RangeInclusive.{RangeInclusive}
+use Rattle.std.specs.Range.{range_inclusive_start, range_inclusive_end, range_inclusive_exhausted, range_inclusive_contains}
+use Rattle.std.proofs.lemmas.Bool.Decides.{nat_tests}
+use Rattle.words.specs.Tests.{all_hold, within}
 use Rattle.words.proofs.Tests.{split, join, is_false, failed_test}
 use Rattle.legs.specs.declared.Measure.{Measure}
 use Rattle.legs.specs.Legs.{longest_distance, last_compass, steepest_clino, clino_in_range, measure_in_range}
 use Rattle.legs.specs.Minutes.{Minutes, minutes_of, hundredths_of, signed_by, compass_angle_in_range, clino_angle_in_range, angles_in_range, rounded}
 use Rattle.legs.proofs.Ranges.{measure_fits_lem}
+use Rattle.legs.proofs.Clino.{kept16}
 use Rattle.legs.proofs.Minutes.{steep_fits, rounded_in_range}
 use Rattle.edits.specs.Ranges.{leg_number_in_range, leg_or_none_in_range, count_before_strike_in_range}
 use Rattle.frames.specs.declared.Taken.{Taken}
-use Rattle.frames.specs.Fields.{field_of, field_of, clino_field_of, measure_field_of, compass_minutes_field_of, clino_minutes_field_of, measure_field_if, minutes_field_of, taken_in_range, taken_field_of}
+use Rattle.frames.specs.Numbers.{Bytes, number32}
+use Rattle.frames.specs.Requests.{measure_at, minutes_at}
+use Rattle.frames.specs.Fields.{field_of, field_of, measure_field_of, clino_minutes_field_of, measure_field_if, minutes_field_of, measure_field_at, taken_in_range, taken_field_of}
 use Rattle.frames.proofs.Ranges.{within_in}
+use Rattle.decoder.specs.Angles.{compass_field_at, clino_field_at}
 
 -- A choice by a test that is known.
 pub chosen : {A : Type 0} (test : Bool) (x y : A) → test ≡ true → x ≡ cond test x y
@@ -38,6 +49,30 @@ field_out false value e = refl
 pub field_in : {A : Type 0} (test : Bool) (value given : A) → field_of test value ≡ Some given → (test ≡ true) × (value ≡ given)
 field_in true value given e = (refl, cc)
 field_in false value given e = (cc, cc)
+
+-- What the library tests of a range is the definition's test, from 0 or from 1 on: a field is the same by either.
+abbrev compared : ℕ → ℕ → Option Ordering
+compared x y = Some (nat_cmp x y)
+
+both_ends : (x least most : ℕ) → (partial_le compared least x && partial_le compared x most) ≡ within least most x
+unfolding all_hold
+both_ends x least most = grind (arith, nat_tests)
+
+one_end : (x most : ℕ) → (partial_le compared 0 x && partial_le compared x most) ≡ leb x most
+one_end x most = grind (arith, nat_tests)
+
+module _ (range : RangeInclusive ℕ) (x most : ℕ) where
+  tested : (least : ℕ) → range_inclusive_start range ≡ least → range_inclusive_end range ≡ most → range_inclusive_exhausted range ≡ false
+      → range_inclusive_contains compared range x ≡ (partial_le compared least x && partial_le compared x most)
+  tested least start end left = λ i. partial_le compared (start i) x && cond (left i) (partial_lt compared x (end i)) (partial_le compared x (end i))
+
+  pub up_to : range_inclusive_start range ≡ 0 → range_inclusive_end range ≡ most → range_inclusive_exhausted range ≡ false
+      → field_of (leb x most) x ≡ field_of (range_inclusive_contains compared range x) x
+  up_to start end left = ap (λ (test : Bool). field_of test x) (sym (tested 0 start end left ∙ one_end x most))
+
+  pub from_one : range_inclusive_start range ≡ 1 → range_inclusive_end range ≡ most → range_inclusive_exhausted range ≡ false
+      → field_of (within 1 most x) x ≡ field_of (range_inclusive_contains compared range x) x
+  from_one start end left = ap (λ (test : Bool). field_of test x) (sym (tested 1 start end left ∙ both_ends x 1 most))
 
 -- A field up to a bound, in range.
 pub bounded_in : (value most given : ℕ) → field_of (leb value most) value ≡ Some given → (leb value most ≡ true) × (value ≡ given) × (given ≤ most)
@@ -62,20 +97,7 @@ unfolding measure_in_range
 all_measure measure distance compass clino =
     join (within 1 longest_distance measure.distance ∷ leb measure.compass last_compass ∷ clino_in_range measure.clino ∷ []) (distance, (compass, (clino, tt)))
 
--- An angle in minutes is out of range where one of its fields is, and in range where all are: a compass,
-pub compass_degrees_out : (degrees minutes : ℕ) → leb degrees 359 ≡ false → None ≡ compass_minutes_field_of degrees minutes
-compass_degrees_out degrees minutes e = not_chosen (compass_angle_in_range degrees minutes) (Some (hundredths_of degrees minutes)) None (failed_test (leb degrees 359) (leb minutes 59 ∷ []) e)
-
-pub compass_minutes_out : (degrees minutes : ℕ) → leb minutes 59 ≡ false → None ≡ compass_minutes_field_of degrees minutes
-compass_minutes_out degrees minutes e =
-    not_chosen (compass_angle_in_range degrees minutes) (Some (hundredths_of degrees minutes)) None
-    (is_false _ (λ h. false≢true (sym e ∙ (split (leb degrees 359 ∷ leb minutes 59 ∷ []) h).1.0)))
-
-pub compass_angle_in : (degrees minutes : ℕ) → leb degrees 359 ≡ true → leb minutes 59 ≡ true → Some (hundredths_of degrees minutes) ≡ compass_minutes_field_of degrees minutes
-compass_angle_in degrees minutes d m =
-    chosen (compass_angle_in_range degrees minutes) (Some (hundredths_of degrees minutes)) None (join (leb degrees 359 ∷ leb minutes 59 ∷ []) (d, (m, tt)))
-
--- and a clino.
+-- The fields of a clino in minutes, which is in range where all are.
 pub record ClinoAngleFits (sign degrees minutes : ℕ) : Type 0 where
   pub sign_fits : leb sign 1 ≡ true
   pub degrees_fit : leb degrees 90 ≡ true
@@ -190,7 +212,52 @@ minutes_in m distance compass clino =
       (measure_fits_lem (rounded m) fits).clino_fits,
     )
 
--- M, in minutes or in hundredths.
+-- M, in minutes or in hundredths, is out of range where its distance, its compass or its clino is, and in range where all three are.
+pub distance_out : (minutes : Bool) (part : Bytes) (at : ℕ) → field_of (within 1 longest_distance (number32 part at)) (number32 part at) ≡ None → None ≡ measure_field_at minutes part at
+distance_out true part at e =
+    let m = minutes_at part at in
+    minutes_out m (λ angles. no_measure_distance (rounded m) (field_out (within 1 longest_distance m.distance) m.distance e))
+distance_out false part at e =
+    let m = measure_at part at in
+    not_chosen (measure_in_range m) (Some m) None (no_measure_distance m (field_out _ _ e))
+
+pub compass_out : (minutes : Bool) (part : Bytes) (at : ℕ) → compass_field_at minutes part at ≡ None → None ≡ measure_field_at minutes part at
+compass_out true part at e =
+    let m = minutes_at part at in
+    minutes_out m (no_compass_angle m (field_out (compass_angle_in_range m.compass_degrees m.compass_minutes) (rounded m).compass e))
+compass_out false part at e =
+    let m = measure_at part at in
+    not_chosen (measure_in_range m) (Some m) None (no_measure_compass m (field_out _ _ e))
+
+pub clino_out : (minutes : Bool) (part : Bytes) (at : ℕ) → clino_field_at minutes part at ≡ None → None ≡ measure_field_at minutes part at
+clino_out true part at e =
+    let m = minutes_at part at in
+    minutes_out m (no_clino_angle m (field_out (clino_angle_in_range m.sign m.clino_degrees m.clino_minutes) (rounded m).clino e))
+clino_out false part at e =
+    let m = measure_at part at in
+    not_chosen (measure_in_range m) (Some m) None (no_measure_clino m (field_out _ m.clino e))
+
+pub all_in : (minutes : Bool) (part : Bytes) (at distance compass : ℕ) (clino : ℤ) → field_of (within 1 longest_distance (number32 part at)) (number32 part at) ≡ Some distance
+    → compass_field_at minutes part at ≡ Some compass
+    → clino_field_at minutes part at ≡ Some clino
+    → Some (record { distance = distance; compass = compass; clino = to_z w16 (of_z w16 clino) }) ≡ measure_field_at minutes part at
+all_in true part at distance compass clino e1 e2 e3 =
+    let m = minutes_at part at in
+    let (distance_fits, d) = field_in (within 1 longest_distance m.distance) m.distance distance e1 in
+    let (compass_fits, c) = field_in (compass_angle_in_range m.compass_degrees m.compass_minutes) (rounded m).compass compass e2 in
+    let (angle_fits, a) = field_in (clino_angle_in_range m.sign m.clino_degrees m.clino_minutes) (rounded m).clino clino e3 in
+    let (each_in_range, clino_fits) = minutes_in m distance_fits compass_fits angle_fits in
+    let kept = ap (λ z. to_z w16 (of_z w16 z)) (sym a) ∙ kept16 (rounded m).clino clino_fits in
+    (λ i. Some (record { distance = sym d i; compass = sym c i; clino = kept i })) ∙ each_in_range
+all_in false part at distance compass clino e1 e2 e3 =
+    let m = measure_at part at in
+    let (distance_fits, d) = field_in _ _ distance e1 in
+    let (compass_fits, c) = field_in _ _ compass e2 in
+    let (clino_fits, a) = field_in _ m.clino clino e3 in
+    let kept = ap (λ z. to_z w16 (of_z w16 z)) (sym a) ∙ kept16 m.clino clino_fits in
+    (λ i. Some (record { distance = sym d i; compass = sym c i; clino = kept i }))
+    ∙ chosen (measure_in_range m) (Some m) None (all_measure m distance_fits compass_fits clino_fits)
+
 pub measure_if_out : (angles : Bool) (measure : Measure) → measure_field_if angles measure ≡ None → angles ≡ true → measure_in_range measure ≡ false
 measure_if_out true measure e h = field_out _ measure e
 measure_if_out false measure e h = absurd (false≢true h)
@@ -217,5 +284,15 @@ fits_taken taken fits =
     join (leg_or_none_in_range taken.newer ∷ leg_number_in_range taken.leg ∷ leg_or_none_in_range taken.older ∷ count_before_strike_in_range taken.count ∷ [])
     (fits.newer, (fits.leg, (fits.older, (fits.count, tt))))
 
-pub no_taken : (taken : Taken) → (TakenFits taken → ⊥) → taken_in_range taken ≡ false
-no_taken taken out = is_false _ (λ h. out (taken_fits taken h))
+pub taken_in : (taken : Taken) (newer leg older count : ℕ) → field_of (leg_or_none_in_range taken.newer) taken.newer ≡ Some newer
+    → field_of (leg_number_in_range taken.leg) taken.leg ≡ Some leg
+    → field_of (leg_or_none_in_range taken.older) taken.older ≡ Some older
+    → field_of (count_before_strike_in_range taken.count) taken.count ≡ Some count
+    → Some (record { newer = newer; leg = leg; older = older; count = count }) ≡ taken_field_of taken
+taken_in taken newer leg older count e1 e2 e3 e4 =
+    let (newer_fits, n) = field_in _ _ newer e1 in
+    let (leg_fits, l) = field_in _ _ leg e2 in
+    let (older_fits, o) = field_in _ _ older e3 in
+    let (count_fits, c) = field_in _ _ count e4 in
+    (λ i. Some (record { newer = sym n i; leg = sym l i; older = sym o i; count = sym c i }))
+    ∙ chosen (taken_in_range taken) (Some taken) None (fits_taken taken (record { newer = newer_fits; leg = leg_fits; older = older_fits; count = count_fits }))

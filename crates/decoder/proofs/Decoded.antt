@@ -4,7 +4,7 @@ use mathlib.Core.Path.{◌≡◌, refl, sym, ap, ◌∙◌}
 use mathlib.Core.List.{List, [], ◌∷◌}
 use mathlib.Core.Bool.{Bool, true, false, not, cond}
 use lib.Dec.{eqb}
-use Rattle.std.specs.Prelude.{Option, Some, None, Result, Ok, Err}
+use Rattle.std.specs.Prelude.{Some, Result, Ok, Err}
 use Rattle.words.specs.Tests.{all_hold, some_holds}
 use Rattle.words.proofs.Tests.{split, join, is_false}
 use Rattle.legs.specs.declared.Stations.{Stations}
@@ -20,7 +20,6 @@ use Rattle.frames.specs.declared.Taken.{Taken}
 use Rattle.frames.specs.Numbers.{Bytes, number16}
 use Rattle.frames.specs.Requests.{stations_at, measure_at, taken_at, add_with, correct_with, strike_in, move_in}
 use Rattle.frames.specs.Fields.{field_of, measure_field_of, taken_in_range, taken_field_of, measure_size, measure_read_at, angles_fit_at, edit_read, read_if, add_read, correct_read}
-use Rattle.frames.proofs.Ranges.{test_alone}
 use Rattle.decoder.proofs.Answered.{chosen, field_in, taken_fits, fits_taken}
 
 -- An edit out of range is refused by 10.
@@ -57,32 +56,14 @@ only_allowed edit there e = by (edit_in_range edit) (edit_repeats edit) e
     by true false e = (cc, refl)
     by false repeats e = (cc, cc)
 
--- 0 names no leg: so the decoders may name it in the place of one that the edit hasn't.
-nor_zero : (test : Bool) → all_hold (not test ∷ test ∷ []) ≡ false
-unfolding all_hold
-nor_zero true = refl
-nor_zero false = refl
-
-zero_names : (test : Bool) → all_hold (false ∷ test ∷ []) ≡ false
-unfolding all_hold
-zero_names test = refl
-
-two_named : (leg newest : ℕ) → named_twice (0 ∷ leg ∷ 0 ∷ newest ∷ []) ≡ named_twice (leg ∷ newest ∷ [])
-unfolding some_holds
-two_named leg newest = simp (zero_names, nor_zero (eqb leg 0), test_alone)
-
-three_named : (newer leg older : ℕ) → named_twice (newer ∷ leg ∷ older ∷ 0 ∷ []) ≡ named_twice (newer ∷ leg ∷ older ∷ [])
-unfolding some_holds
-three_named newer leg older = simp (nor_zero (eqb newer 0), nor_zero (eqb leg 0), nor_zero (eqb older 0))
-
 -- What repeats in each edit, as its decoder tests it.
-pub add_repeats : (e : Add) → edit_repeats (Edit.Add e) ≡ some_holds (same_station e.stations ∷ named_twice (0 ∷ e.leg ∷ 0 ∷ e.newest ∷ []) ∷ [])
+pub add_repeats : (e : Add) → edit_repeats (Edit.Add e) ≡ some_holds (same_station e.stations ∷ named_twice (e.leg ∷ e.newest ∷ []) ∷ [])
 unfolding edit_repeats
-add_repeats e = ap (λ (test : Bool). some_holds (same_station e.stations ∷ test ∷ [])) (sym (two_named e.leg e.newest))
+add_repeats e = refl
 
-pub strike_repeats : (e : Strike) → edit_repeats (Edit.Strike e) ≡ some_holds (same_station e.stations ∷ named_twice (e.newer ∷ e.leg ∷ e.older ∷ 0 ∷ []) ∷ [])
+pub strike_repeats : (e : Strike) → edit_repeats (Edit.Strike e) ≡ some_holds (same_station e.stations ∷ named_twice (e.newer ∷ e.leg ∷ e.older ∷ []) ∷ [])
 unfolding edit_repeats
-strike_repeats e = ap (λ (test : Bool). some_holds (same_station e.stations ∷ test ∷ [])) (sym (three_named e.newer e.leg e.older))
+strike_repeats e = refl
 
 pub correct_repeats : (e : Correct) → edit_repeats (Edit.Correct e) ≡ same_station e.stations
 unfolding edit_repeats

@@ -1,3 +1,4 @@
 pub mod Answered
+pub mod Named
 pub mod Decoded
 pub mod Viewed

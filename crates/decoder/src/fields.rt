@@ -1,49 +1,40 @@
 // One field of a frame's part after the kind: in range, or out of it.
-ghost use Rattle.std.specs.Prelude.{◌≡◌, cond, ◌+◌, ◌≤◌, ◌<◌, length, eqb, leb};
+ghost use Rattle.std.specs.Prelude.{◌≡◌, Bool, true, false, cond, ◌+◌, ◌≤◌, ◌<◌, length, eqb};
+ghost use Rattle.std.specs.Range.{range_inclusive_contains};
 ghost use Rattle.words.specs.Tests.{within};
 ghost use Rattle.legs.specs.Legs.{longest_distance};
 ghost use Rattle.edits.specs.Ranges.{passage_in_range};
 ghost use Rattle.frames.specs.Numbers.{number16, number32, signed16};
-ghost use Rattle.frames.specs.Requests.{stations_at, measure_at, minutes_at, taken_at};
-ghost use Rattle.frames.specs.Fields.{field_of, clino_field_of, measure_field_of, compass_minutes_field_of, clino_minutes_field_of, minutes_field_of, measure_size, measure_field_at, taken_field_of};
+ghost use Rattle.frames.specs.Requests.{stations_at, taken_at};
+ghost use Rattle.frames.specs.Fields.{field_of, clino_field_of, measure_size, measure_field_at, taken_field_of};
+ghost use Rattle.decoder.specs.Angles.{compass_field_at, clino_field_at};
 
-use frames::Taken;
-use frames::numbers::{Bits, read16, read32, signed};
+use frames::numbers::{read16, read32, signed};
+use frames::{Length, Taken};
 use legs::{Angle, Measure, Stations};
+use std::ops::RangeInclusive;
 use words::Limits;
 
-// 0 to most.
-pub fn field_up_to(part: &[u8], at: usize, most: u16) -> Option<u16>
-    requires { at + 1 < length part.now }
-    ensures { result ≡ field_of (leb (number16 part.now at) most) (number16 part.now at) }
+// A number, where it is in a range.
+fn within<T: PartialOrd + Copy>(range: RangeInclusive<T>, number: T) -> Option<T>
+    ensures { result ≡ field_of (range_inclusive_contains T.partial_cmp range number) number }
 {
-    let value = read16(part, at);
-    if most < value {
-        return None;
-    }
-    Some(value)
+    range.contains(&number).then_some(number)
 }
 
-// 1 to most.
-pub fn field_from_one(part: &[u8], at: usize, most: u16) -> Option<u16>
+// The number of 16 bits at a byte, where it is in a range.
+pub fn field(part: &[u8], at: usize, range: RangeInclusive<u16>) -> Option<u16>
     requires { at + 1 < length part.now }
-    ensures { result ≡ field_of (within 1 most (number16 part.now at)) (number16 part.now at) }
+    ensures { result ≡ field_of (range_inclusive_contains ⟦<u16 as PartialOrd>⟧.partial_cmp range (number16 part.now at)) (number16 part.now at) }
 {
-    let value = read16(part, at);
-    if value < 1 {
-        return None;
-    }
-    if most < value {
-        return None;
-    }
-    Some(value)
+    within(range, read16(part, at))
 }
 
 pub fn passage_field(part: &[u8], at: usize) -> Option<u16>
     requires { at + 1 < length part.now }
     ensures { result ≡ field_of (passage_in_range (number16 part.now at)) (number16 part.now at) }
 {
-    field_up_to(part, at, Limits::PASSAGES - 1)
+    field(part, at, 0..=Limits::PASSAGES - 1)
 }
 
 pub fn stations_at(part: &[u8], at: usize) -> Stations
@@ -52,64 +43,23 @@ pub fn stations_at(part: &[u8], at: usize) -> Stations
 {
     let from = read16(part, at);
     let to = read16(part, at + 2);
-    Stations { from: from, to: to }
+    Stations { from, to }
 }
 
+#[tactic(auto, unfolding(words::specs::Tests::all_hold))]
 fn distance_field(part: &[u8], at: usize) -> Option<u32>
     requires { at + 3 < length part.now }
     ensures { result ≡ field_of (within 1 longest_distance (number32 part.now at)) (number32 part.now at) }
 {
-    let distance = read32(part, at);
-    if distance < 1 {
-        return None;
-    }
-    if (Measure::LONGEST as u32) < distance {
-        return None;
-    }
-    Some(distance)
+    within(1..=Measure::LONGEST as u32, read32(part, at))
 }
 
-// The range is tested on the 16 bits: up to the steepest, or as far below 2^16.
 fn clino_field(part: &[u8], at: usize) -> Option<i16>
     requires { at + 1 < length part.now }
     ensures { result ≡ clino_field_of (signed16 part.now at) }
 {
-    let bits = read16(part, at);
-    let steepest = Measure::STEEPEST as u32;
-    let up = bits as u32;
-    if up <= steepest {
-        return Some(signed(bits));
-    }
-    let down = Bits::TWO_BYTES - up;
-    if down <= steepest {
-        return Some(signed(bits));
-    }
-    None
-}
-
-// Distance, compass and clino.
-pub fn measure_field(part: &[u8], at: usize) -> Option<Measure>
-    requires { at + 7 < length part.now }
-    ensures { result ≡ measure_field_of (measure_at part.now at) }
-{
-    let distance = distance_field(part, at)?;
-    let compass = field_up_to(part, at + 4, Measure::LAST_COMPASS as u16)?;
-    let clino = clino_field(part, at + 6)?;
-    Some(Measure {
-        distance: distance,
-        compass: compass,
-        clino: clino,
-    })
-}
-
-// Degrees and minutes of the compass of an M in minutes, in hundredths of a degree.
-fn compass_in_minutes(part: &[u8], at: usize) -> Option<u16>
-    requires { at + 7 < length part.now }
-    ensures { result ≡ compass_minutes_field_of (number16 part.now (at + 4)) (number16 part.now (at + 6)) }
-{
-    let degrees = field_up_to(part, at + 4, Angle::LAST_DEGREE)?;
-    let minutes = field_up_to(part, at + 6, Angle::LAST_MINUTE)?;
-    Some(legs::hundredths(degrees, minutes))
+    let steepest = Measure::STEEPEST as i16;
+    within(-steepest..=steepest, signed(read16(part, at)))
 }
 
 // The last minute that a clino of so many degrees may have: none goes over 90 degrees 0 minutes.
@@ -122,67 +72,102 @@ fn last_minute(degrees: u16) -> u16
     Angle::LAST_MINUTE
 }
 
-// Sign, degrees and minutes of the clino of an M in minutes, in hundredths of a degree.
-fn clino_in_minutes(part: &[u8], at: usize) -> Option<i16>
-    requires { at + 13 < length part.now }
-    ensures { result ≡ clino_minutes_field_of (number16 part.now (at + 8)) (number16 part.now (at + 10)) (number16 part.now (at + 12)) }
-{
-    let sign = field_up_to(part, at + 8, Angle::DOWN)?;
-    let degrees = field_up_to(part, at + 10, Angle::STEEPEST)?;
-    let minutes = field_up_to(part, at + 12, last_minute(degrees))?;
-    let steepness = legs::hundredths(degrees, minutes);
-    Some(legs::signed_by(sign, steepness))
+// What compass and clino of an M are sent in.
+pub trait AngleUnit {
+    // Whether in degrees and minutes, and not in hundredths of a degree.
+    ghost minutes: { Bool };
+
+    // The bytes of M.
+    fn measure_size() -> usize
+        ensures { result ≡ measure_size minutes };
+
+    // The compass of the M at a byte, in hundredths of a degree.
+    fn compass(part: &[u8], at: usize) -> Option<u16>
+        requires { at + measure_size minutes ≤ length part.now }
+        ensures { result ≡ compass_field_at minutes part.now at };
+
+    // Its clino.
+    fn clino(part: &[u8], at: usize) -> Option<i16>
+        requires { at + measure_size minutes ≤ length part.now }
+        ensures { result ≡ clino_field_at minutes part.now at };
 }
 
-// Distance, compass and clino in minutes: as sent they are in range, or the measure is out of it; then they are rounded.
-fn minutes_field(part: &[u8], at: usize) -> Option<Measure>
-    requires { at + 13 < length part.now }
-    ensures { result ≡ minutes_field_of (minutes_at part.now at) }
+#[derive(Drop)]
+pub struct Hundredths {}
+
+impl AngleUnit for Hundredths {
+    ghost minutes = { false };
+
+    fn measure_size() -> usize {
+        usize::from(Length::MEASURE)
+    }
+
+    fn compass(part: &[u8], at: usize) -> Option<u16> {
+        field(part, at + 4, 0..=Measure::LAST_COMPASS as u16)
+    }
+
+    fn clino(part: &[u8], at: usize) -> Option<i16> {
+        clino_field(part, at + 6)
+    }
+}
+
+// Degrees and minutes, the clino's behind its sign. As sent they are in range, or the angle is out of it; then it is rounded.
+#[derive(Drop)]
+pub struct Minutes {}
+
+impl AngleUnit for Minutes {
+    ghost minutes = { true };
+
+    fn measure_size() -> usize {
+        usize::from(Length::MEASURE_IN_MINUTES)
+    }
+
+    #[tactic(auto, unfolding(words::specs::Tests::all_hold))]
+    fn compass(part: &[u8], at: usize) -> Option<u16> {
+        let degrees = field(part, at + 4, 0..=Angle::LAST_DEGREE)?;
+        let minutes = field(part, at + 6, 0..=Angle::LAST_MINUTE)?;
+        Some(legs::hundredths(degrees, minutes))
+    }
+
+    fn clino(part: &[u8], at: usize) -> Option<i16> {
+        let sign = field(part, at + 8, 0..=Angle::DOWN)?;
+        let degrees = field(part, at + 10, 0..=Angle::STEEPEST)?;
+        let minutes = field(part, at + 12, 0..=last_minute(degrees))?;
+        let steepness = legs::hundredths(degrees, minutes);
+        Some(legs::signed_by(sign, steepness))
+    }
+}
+
+// Distance, compass and clino.
+#[tactic(auto, using(crate::proofs::Answered::distance_out, crate::proofs::Answered::compass_out, crate::proofs::Answered::clino_out))]
+pub fn measure_field<U: AngleUnit>(part: &[u8], at: usize) -> Option<Measure>
+    requires { at + measure_size U.minutes ≤ length part.now }
+    ensures { result ≡ measure_field_at U.minutes part.now at }
 {
     let distance = distance_field(part, at)?;
-    let compass = compass_in_minutes(part, at)?;
-    let clino = clino_in_minutes(part, at)?;
+    let compass = U::compass(part, at)?;
+    let clino = U::clino(part, at)?;
     Some(Measure {
-        distance: distance,
-        compass: compass,
-        clino: clino,
+        distance,
+        compass,
+        clino,
     })
 }
 
-// The bytes of M, in minutes or in hundredths.
-pub fn measure_size(minutes: bool) -> usize
-    ensures { result ≡ measure_size minutes }
-{
-    if minutes {
-        return 14;
-    }
-    8
-}
-
-// M, in minutes or in hundredths.
-pub fn measure_in(minutes: bool, part: &[u8], at: usize) -> Option<Measure>
-    requires { at + measure_size minutes ≤ length part.now }
-    ensures { result ≡ measure_field_at minutes part.now at }
-{
-    if minutes {
-        return minutes_field(part, at);
-    }
-    measure_field(part, at)
-}
-
 // f r s c.
+#[tactic(auto, unfolding(words::specs::Tests::all_hold))]
 pub fn taken_field(part: &[u8], at: usize) -> Option<Taken>
     requires { at + 7 < length part.now }
     ensures { result ≡ taken_field_of (taken_at part.now at) }
 {
-    let newer = field_up_to(part, at, Limits::LAST_LEG)?;
-    let leg = field_from_one(part, at + 2, Limits::LAST_LEG)?;
-    let older = field_up_to(part, at + 4, Limits::LAST_LEG)?;
-    let count = field_from_one(part, at + 6, Limits::LAST_LEG)?;
+    let newer = field(part, at, 0..=Limits::LAST_LEG)?;
+    let leg = field(part, at + 2, 1..=Limits::LAST_LEG)?;
+    let older = field(part, at + 4, 0..=Limits::LAST_LEG)?;
+    let count = field(part, at + 6, 1..=Limits::LAST_LEG)?;
     Some(Taken {
-        newer: newer,
-        leg: leg,
-        older: older,
-        count: count,
+        newer,
+        leg,
+        older,
+        count,
     })
 }

@@ -1,11 +1,11 @@
 // Each edit's and a view's fields, read from the part of the frame after its kind. A field out of range ends the reading there.
 #![tactic(auto)]
 
-ghost use Rattle.std.specs.Prelude.{◌≡◌, true, [], ◌∷◌, ◌+◌, ◌*◌, ◌-◌, ◌≤◌, length, take};
+ghost use Rattle.std.specs.Prelude.{◌≡◌, true, ◌+◌, ◌*◌, ◌-◌, ◌≤◌, length, take};
 ghost use Rattle.words.specs.Words.{most_named};
 ghost use Rattle.edits.specs.declared.Edit.TheVariants as Edit;
 ghost use Rattle.edits.specs.Views.{all_in_book, padded_names};
-ghost use Rattle.edits.specs.Ranges.{same_leg, named_twice};
+ghost use Rattle.edits.specs.Ranges.{named_among, named_twice};
 ghost use Rattle.frames.specs.Requests.{strike_kind, move_kind, length_of_kind, is_edit_kind, strike_in, move_in, view_words_in};
 ghost use Rattle.frames.specs.Numbers.{number16};
 ghost use Rattle.frames.specs.Fields.{measure_size, edit_read, add_read, correct_read, read_edit, ViewFields, view_read};
@@ -13,8 +13,7 @@ ghost use Rattle.frames.specs.Refusals.{numbered};
 ghost use Rattle.frames.specs.Kinds.{kind_number};
 
 use crate::fields::{
-    field_from_one, field_up_to, measure_field, measure_in, measure_size, passage_field,
-    stations_at, taken_field,
+    AngleUnit, Hundredths, Minutes, field, measure_field, passage_field, stations_at, taken_field,
 };
 use edits::{Add, Correct, Edit, Move, Strike, View};
 use frames::numbers::read16;
@@ -23,103 +22,94 @@ use words::Limits;
 
 pub mod fields; // one field, in range or out of it
 
-// Leg number 0 means none, and names none.
-fn same_leg(leg: u16, other: u16) -> bool
-    ensures { result ≡ same_leg leg other }
+// Whether a leg is named among others: 0 means none, and is named nowhere.
+fn named_among(leg: u16, others: &[u16]) -> bool
+    ensures { result ≡ named_among leg others.now }
 {
-    if leg == 0 {
-        return false;
-    }
-    leg == other
+    leg != 0 && others.contains(&leg)
 }
 
-// A leg other than 0 is named twice among f, r, s and h; 0 stands for one that the edit hasn't.
-fn named_twice(newer: u16, leg: u16, older: u16, newest: u16) -> bool
-    ensures { result ≡ named_twice (newer ∷ leg ∷ older ∷ newest ∷ []) }
+// Whether a leg other than 0 is named twice. Its callers give two to four: inlined there, no loop is left.
+#[inline(always)]
+#[tactic(auto, using(frames::proofs::Ranges::test_alone), unfolding(words::specs::Tests::some_holds))]
+fn named_twice(legs: &[u16]) -> bool
+    ensures { result ≡ named_twice legs.now }
 {
-    if same_leg(newer, leg) {
-        return true;
+    let mut rest = legs;
+    while let Some((leg, later)) = rest.split_first() {
+        if named_among(*leg, later) {
+            return true;
+        }
+        rest = later;
     }
-    if same_leg(newer, older) {
-        return true;
-    }
-    if same_leg(newer, newest) {
-        return true;
-    }
-    if same_leg(leg, older) {
-        return true;
-    }
-    if same_leg(leg, newest) {
-        return true;
-    }
-    same_leg(older, newest)
+    false
 }
 
-// team p r h c from to M, which is in minutes or in hundredths.
-fn read_add(minutes: bool, part: &[u8]) -> Result<Edit, Refusal>
-    requires { length part.now ≡ 14 + measure_size minutes }
-    ensures { numbered result ≡ add_read minutes part.now }
+// team p r h c from to M.
+fn read_add<U: AngleUnit>(part: &[u8]) -> Result<Edit, Refusal>
+    requires { length part.now ≡ 14 + measure_size U.minutes }
+    ensures { numbered result ≡ add_read U.minutes part.now }
 {
     let Some(passage) = passage_field(part, 2) else {
         return Err(Refusal::Range);
     };
-    let Some(leg) = field_from_one(part, 4, Limits::LAST_LEG) else {
+    let Some(leg) = field(part, 4, 1..=Limits::LAST_LEG) else {
         return Err(Refusal::Range);
     };
-    let Some(newest) = field_up_to(part, 6, Limits::LAST_LEG) else {
+    let Some(newest) = field(part, 6, 0..=Limits::LAST_LEG) else {
         return Err(Refusal::Range);
     };
-    let Some(count) = field_up_to(part, 8, Limits::LAST_LEG - 1) else {
+    let Some(count) = field(part, 8, 0..=Limits::LAST_LEG - 1) else {
         return Err(Refusal::Range);
     };
     let stations = stations_at(part, 10);
-    let Some(measure) = measure_in(minutes, part, 14) else {
+    let Some(measure) = measure_field::<U>(part, 14) else {
         return Err(Refusal::Range);
     };
     if stations.from == stations.to {
         return Err(Refusal::Repeated);
     }
-    if named_twice(0, leg, 0, newest) {
+    if named_twice(&[leg, newest]) {
         return Err(Refusal::Repeated);
     }
     Ok(Edit::Add(Add {
-        passage: passage,
-        leg: leg,
-        newest: newest,
-        count: count,
-        stations: stations,
-        measure: measure,
+        passage,
+        leg,
+        newest,
+        count,
+        stations,
+        measure,
     }))
 }
 
-// team p r from to, old M, new M, both in minutes or both in hundredths.
-fn read_correct(minutes: bool, part: &[u8]) -> Result<Edit, Refusal>
-    requires { length part.now ≡ 10 + 2 * measure_size minutes }
-    ensures { numbered result ≡ correct_read minutes part.now }
+// team p r from to, old M, new M, both in the same unit.
+fn read_correct<U: AngleUnit>(part: &[u8]) -> Result<Edit, Refusal>
+    requires { length part.now ≡ 10 + 2 * measure_size U.minutes }
+    ensures { numbered result ≡ correct_read U.minutes part.now }
 {
-    let second = 10 + measure_size(minutes);
+    let second = 10 + U::measure_size();
     let Some(passage) = passage_field(part, 2) else {
         return Err(Refusal::Range);
     };
-    let Some(leg) = field_from_one(part, 4, Limits::LAST_LEG) else {
+    let Some(leg) = field(part, 4, 1..=Limits::LAST_LEG) else {
         return Err(Refusal::Range);
     };
     let stations = stations_at(part, 6);
-    let Some(old) = measure_in(minutes, part, 10) else {
+    let Some(old) = measure_field::<U>(part, 10) else {
         return Err(Refusal::Range);
     };
-    let Some(new) = measure_in(minutes, part, second) else {
+    let Some(new) = measure_field::<U>(part, second) else {
         return Err(Refusal::Range);
     };
     if stations.from == stations.to {
         return Err(Refusal::Repeated);
     }
     Ok(Edit::Correct(Correct {
-        passage: passage,
-        leg: leg,
-        stations: stations,
-        old: old,
-        new: new,
+        passage,
+        leg,
+        stations,
+        old,
+        new,
     }))
 }
 
@@ -135,23 +125,23 @@ fn read_strike(part: &[u8]) -> Result<Edit, Refusal>
         return Err(Refusal::Range);
     };
     let stations = stations_at(part, 12);
-    let Some(measure) = measure_field(part, 16) else {
+    let Some(measure) = measure_field::<Hundredths>(part, 16) else {
         return Err(Refusal::Range);
     };
     if stations.from == stations.to {
         return Err(Refusal::Repeated);
     }
-    if named_twice(taken.newer, taken.leg, taken.older, 0) {
+    if named_twice(&[taken.newer, taken.leg, taken.older]) {
         return Err(Refusal::Repeated);
     }
     Ok(Edit::Strike(Strike {
-        passage: passage,
+        passage,
         newer: taken.newer,
         leg: taken.leg,
         older: taken.older,
         count: taken.count,
-        stations: stations,
-        measure: measure,
+        stations,
+        measure,
     }))
 }
 
@@ -169,29 +159,29 @@ fn read_move(part: &[u8]) -> Result<Edit, Refusal>
     let Some(taken) = taken_field(part, 6) else {
         return Err(Refusal::Range);
     };
-    let Some(newest) = field_up_to(part, 14, Limits::LAST_LEG) else {
+    let Some(newest) = field(part, 14, 0..=Limits::LAST_LEG) else {
         return Err(Refusal::Range);
     };
-    let Some(count) = field_up_to(part, 16, Limits::LAST_LEG - 1) else {
+    let Some(count) = field(part, 16, 0..=Limits::LAST_LEG - 1) else {
         return Err(Refusal::Range);
     };
     let stations = stations_at(part, 18);
     if stations.from == stations.to || into == passage {
         return Err(Refusal::Repeated);
     }
-    if named_twice(taken.newer, taken.leg, taken.older, newest) {
+    if named_twice(&[taken.newer, taken.leg, taken.older, newest]) {
         return Err(Refusal::Repeated);
     }
     Ok(Edit::Move(Move {
-        passage: passage,
-        into: into,
+        passage,
+        into,
         newer: taken.newer,
         leg: taken.leg,
         older: taken.older,
         count: taken.count,
         into_newest: newest,
         into_count: count,
-        stations: stations,
+        stations,
     }))
 }
 
@@ -201,24 +191,25 @@ pub fn read_edit(kind: Kind, part: &[u8]) -> Result<Edit, Refusal>
     ensures { numbered result ≡ read_edit (kind_number kind) part.now }
 {
     match kind {
-        Kind::Add => read_add(false, part),
-        Kind::AddInMinutes => read_add(true, part),
-        Kind::Correct => read_correct(false, part),
-        Kind::CorrectInMinutes => read_correct(true, part),
+        Kind::Add => read_add::<Hundredths>(part),
+        Kind::AddInMinutes => read_add::<Minutes>(part),
+        Kind::Correct => read_correct::<Hundredths>(part),
+        Kind::CorrectInMinutes => read_correct::<Minutes>(part),
         Kind::Strike => read_strike(part),
         Kind::Move => read_move(part),
         Kind::Step | Kind::Look | Kind::View => unreachable!(),
     }
 }
 
-// The words that a view names, zeros behind them.
+// The words that a view names, zeros behind them. They are counted: of a loop over `words.iter_mut().zip(fields)` no fact says what was
+// written through the zip, so that its proof doesn't close.
 fn named_words(part: &[u8], n: usize) -> [u64; Limits::NAMED]
     requires { (n ≤ most_named) × (length part.now ≡ 4 + 2 * n) }
     ensures { result ≡ padded_names (view_words_in part.now) }
 {
     let mut words = [0u64; Limits::NAMED];
     for k in 0..n {
-        words[k] = read16(part, 2 * Frame::FIELD + Frame::FIELD * k) as u64;
+        words[k] = u64::from(read16(part, 2 * Frame::FIELD + Frame::FIELD * k));
     }
     words
 }
@@ -247,5 +238,5 @@ pub fn read_view(part: &[u8]) -> Result<View, Refusal>
     if !words::distinct(&words[..count]) {
         return Err(Refusal::Repeated);
     }
-    Ok(View { n: n, words: words })
+    Ok(View { n, words })
 }

@@ -1,10 +1,12 @@
 // What the programs share that make calls from standard input: room, what the input holds, and the text of answers.
 #![tactic(auto)]
 
-ghost use Rattle.std.specs.Prelude.{◌≤◌, length};
+ghost use Rattle.std.specs.Prelude.{◌≡◌, ◌≤◌, length};
+ghost use Rattle.desk.specs.Targets.{with_number};
 
 use records::{Given, Records};
 use std::io::{Read, Stdin};
+use tickets::{Target, Tickets};
 use words::Limits;
 
 pub mod records; // what stands in the input
@@ -20,6 +22,11 @@ impl Room {
     pub const OUTPUT: usize = 64;
 
     pub const INPUT: usize = 1048576;
+
+    // The numbers of a target, and of a team's targets.
+    pub const TARGET: usize = 3;
+
+    pub const NUMBERS: usize = Room::TARGET * Tickets::ROOM;
 }
 
 // Reads until the buffer is full, the input ends or a read fails: what has come. The buffer is an array, so that the length of a
@@ -41,5 +48,21 @@ pub fn set_words(book: &mut [u64], given: &[u8]) {
         if let Some(place) = book.get_mut(word as usize) {
             *place = value;
         }
+    }
+}
+
+// The numbers of a team's targets are counted one target after another: of each its word, its quoted and its new value. One that the room
+// doesn't have is passed over.
+pub fn set_number(targets: &mut [Target], place: usize, number: u64)
+    ensures { targets.new ≡ with_number targets.old place number }
+{
+    let k = place / Room::TARGET;
+    if targets.len() <= k {
+        return;
+    }
+    match place % Room::TARGET {
+        0 => targets[k].word = number,
+        1 => targets[k].quoted = number,
+        _ => targets[k].new = number,
     }
 }

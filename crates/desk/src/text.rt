@@ -2,6 +2,7 @@
 use std::fmt::Display;
 use std::io::{Print, Stdout};
 use std::{fmt, io};
+use tickets::Target;
 
 // Numbers, each behind a space.
 #[derive(Drop)]
@@ -11,6 +12,19 @@ impl<T: Display> Display for Numbers<'_, T> {
     fn fmt<W: fmt::Write>(&self, f: &mut fmt::Formatter<W>) -> fmt::Result {
         for number in self.0 {
             write!(f, " {number}")?;
+        }
+        Ok(())
+    }
+}
+
+// The numbers of targets, each behind a space: of each its word, its quoted and its new value.
+#[derive(Drop)]
+pub struct Targets<'a>(pub &'a [Target]);
+
+impl Display for Targets<'_> {
+    fn fmt<W: fmt::Write>(&self, f: &mut fmt::Formatter<W>) -> fmt::Result {
+        for target in self.0 {
+            write!(f, " {} {} {}", target.word, target.quoted, target.new)?;
         }
         Ok(())
     }

@@ -9,6 +9,7 @@ ghost use Rattle.frames.specs.declared.Answer.TheVariants as Answer;
 ghost use Rattle.frames.specs.Numbers.{bytes16};
 ghost use Rattle.frames.specs.Requests.{head_bytes};
 ghost use Rattle.frames.specs.Answers.{frame_of, answer_frame, longest_answer, written};
+ghost use Rattle.encoder.specs.Kinds.{answer_kind_number};
 
 use frames::numbers::{put16, put32, put64};
 use frames::{Answer, Frame};
@@ -33,19 +34,18 @@ pub enum AnswerKind {
 }
 
 // The length and the kind of a frame whose fields take so many bytes. Returns the frame's bytes.
-fn put_head(out: &mut [u8], kind: u16, fields: usize) -> usize
-    requires { (longest_answer ≤ length out.old) × (head_bytes + fields ≤ longest_answer) }
-    ensures { (result ≡ head_bytes + fields) × (out.new ≡ sets out.old 0 (bytes16 (2 + fields) ++ bytes16 kind)) }
+fn put_head(out: &mut [u8; Answer::LONGEST], kind: AnswerKind, fields: usize) -> usize
+    requires { head_bytes + fields ≤ longest_answer }
+    ensures { (result ≡ head_bytes + fields) × (out.new ≡ sets out.old 0 (bytes16 (2 + fields) ++ bytes16 (answer_kind_number kind))) }
 {
     put16(out, 0, (Frame::FIELD + fields) as u16);
-    put16(out, Frame::FIELD, kind);
+    put16(out, Frame::FIELD, kind as u16);
     Frame::HEAD + fields
 }
 
 // A frame with one field of 16 bits, as most have.
-fn write_short(out: &mut [u8], kind: u16, x: u16) -> usize
-    requires { longest_answer ≤ length out.old }
-    ensures { (result, out.new) ≡ written out.old (frame_of kind (bytes16 x)) }
+fn write_short(out: &mut [u8; Answer::LONGEST], kind: AnswerKind, x: u16) -> usize
+    ensures { (result, out.new) ≡ written out.old (frame_of (answer_kind_number kind) (bytes16 x)) }
 {
     let count = put_head(out, kind, Frame::FIELD);
     put16(out, Frame::HEAD, x);
@@ -60,12 +60,11 @@ fn values_shown(n: u16) -> usize
 }
 
 // A frame with one field of 64 bits for each value that a view shows: of its first n, six at most.
-fn write_seen(out: &mut [u8], seen: Values) -> usize
-    requires { longest_answer ≤ length out.old }
+fn write_seen(out: &mut [u8; Answer::LONGEST], seen: Values) -> usize
     ensures { (result, out.new) ≡ written out.old (answer_frame (Answer.Step (Seen seen))) }
 {
     let shown = values_shown(seen.n);
-    let count = put_head(out, AnswerKind::Seen as u16, Frame::VALUE * shown);
+    let count = put_head(out, AnswerKind::Seen, Frame::VALUE * shown);
     for (k, value) in seen.values[..shown].iter().enumerate() {
         put64(out, Frame::HEAD + Frame::VALUE * k, *value);
     }
@@ -74,28 +73,27 @@ fn write_seen(out: &mut [u8], seen: Values) -> usize
 
 // The answer to a step.
 #[tactic(auto, using(frames::proofs::Put::all_written_lem), unfolding(frames::specs::Answers::answer_frame))]
-fn write_step(out: &mut [u8], answer: StepAnswer) -> usize
-    requires { longest_answer ≤ length out.old }
+fn write_step(out: &mut [u8; Answer::LONGEST], answer: StepAnswer) -> usize
     ensures { (result, out.new) ≡ written out.old (answer_frame (Answer.Step answer)) }
 {
     match answer {
-        StepAnswer::Claimed(many) => write_short(out, AnswerKind::Claimed as u16, many),
+        StepAnswer::Claimed(many) => write_short(out, AnswerKind::Claimed, many),
         StepAnswer::Waiting(word, team) => {
-            let count = put_head(out, AnswerKind::Waiting as u16, 2 * Frame::FIELD);
+            let count = put_head(out, AnswerKind::Waiting, 2 * Frame::FIELD);
             put16(out, Frame::HEAD, word);
             put16(out, Frame::HEAD + Frame::FIELD, team);
             count
         }
-        StepAnswer::Found(word) => write_short(out, AnswerKind::Found as u16, word),
-        StepAnswer::Put(many) => write_short(out, AnswerKind::Put as u16, many),
-        StepAnswer::Returned(many) => write_short(out, AnswerKind::Returned as u16, many),
+        StepAnswer::Found(word) => write_short(out, AnswerKind::Found, word),
+        StepAnswer::Put(many) => write_short(out, AnswerKind::Put, many),
+        StepAnswer::Returned(many) => write_short(out, AnswerKind::Returned, many),
         StepAnswer::Granted(tries) => {
-            let count = put_head(out, AnswerKind::Granted as u16, Frame::LONG);
+            let count = put_head(out, AnswerKind::Granted, Frame::LONG);
             put32(out, Frame::HEAD, tries);
             count
         }
         StepAnswer::Stale(word, tries) => {
-            let count = put_head(out, AnswerKind::Stale as u16, Frame::FIELD_AND_LONG);
+            let count = put_head(out, AnswerKind::Stale, Frame::FIELD_AND_LONG);
             put16(out, Frame::HEAD, word);
             put32(out, Frame::HEAD + Frame::FIELD, tries);
             count
@@ -106,14 +104,13 @@ fn write_step(out: &mut [u8], answer: StepAnswer) -> usize
 
 // The answer to a look: the value, or Held where there is none.
 #[tactic(auto, using(frames::proofs::Put::all_written_lem), unfolding(frames::specs::Answers::answer_frame))]
-fn write_look(out: &mut [u8], answer: Option<u64>) -> usize
-    requires { longest_answer ≤ length out.old }
+fn write_look(out: &mut [u8; Answer::LONGEST], answer: Option<u64>) -> usize
     ensures { (result, out.new) ≡ written out.old (answer_frame (Answer.Look answer)) }
 {
     let Some(value) = answer else {
-        return put_head(out, AnswerKind::Held as u16, 0);
+        return put_head(out, AnswerKind::Held, 0);
     };
-    let count = put_head(out, AnswerKind::Value as u16, Frame::VALUE);
+    let count = put_head(out, AnswerKind::Value, Frame::VALUE);
     put64(out, Frame::HEAD, value);
     count
 }
@@ -125,10 +122,11 @@ pub fn write(out: &mut [u8], answer: Answer) -> usize
     requires { longest_answer ≤ length out.old }
     ensures { ((result, out.new) ≡ written out.old (answer_frame answer)) × (result ≤ longest_answer) }
 {
+    let out = out.first_chunk_mut().unwrap();
     match answer {
-        Answer::Standing(n) => write_short(out, AnswerKind::Standing as u16, n),
+        Answer::Standing(n) => write_short(out, AnswerKind::Standing, n),
         Answer::Step(answer) => write_step(out, answer),
         Answer::Look(answer) => write_look(out, answer),
-        Answer::Refused(number) => write_short(out, AnswerKind::Refused as u16, number),
+        Answer::Refused(number) => write_short(out, AnswerKind::Refused, number),
     }
 }

@@ -10,7 +10,6 @@ use Rattle.edits.specs.declared.View.{View}
 use Rattle.edits.specs.Ranges.{leg_number_in_range, leg_or_none_in_range, count_before_strike_in_range, edit_in_range, edit_repeats}
 use Rattle.edits.specs.Views.{view_in_range, view_repeats, view_of}
 use Rattle.frames.specs.Request.{Request, Open, Step, Look}
-use Rattle.frames.specs.Request as Request
 use Rattle.frames.specs.declared.Taken.{Taken}
 use Rattle.frames.specs.Numbers.{Bytes}
 use Rattle.frames.specs.Requests.{length_field, kind_field, head_bytes, part_after_kind, step_kind, view_kind, length_of_kind, is_kind, length_fits, measure_at, minutes_at, add_with, correct_with, edit_of_kind, angles_of_kind}

@@ -22,10 +22,12 @@ pub enum Answer {
     Standing(u16),
     Step(StepAnswer),
     Look(Option<u64>),
+    // The papers' number, as the other answers' fields are: a Refusal would be turned back into it wherever the answer is written or told.
     Refused(u16),
 }
 
-// Of a leg that is taken out of its passage's list: the next newer leg, itself, the next older, and the count of legs.
+// Of a leg that is taken out of its passage's list: the next newer leg, itself, the next older, and the count of legs. Strike and
+// Move have these four as fields of their own, as the papers name them: a Taken in both would be one more name in every place of one.
 #[derive(Clone, Copy)]
 pub struct Taken {
     pub newer: u16,
@@ -78,7 +80,7 @@ impl Length {
     const FIELD: u16 = Frame::FIELD as u16;
 
     // Distance, compass and clino.
-    const MEASURE: u16 = Frame::LONG as u16 + 2 * Length::FIELD;
+    pub const MEASURE: u16 = Frame::LONG as u16 + 2 * Length::FIELD;
 
     pub const ADD: u16 = 8 * Length::FIELD + Length::MEASURE;
 
@@ -89,7 +91,7 @@ impl Length {
     pub const MOVE: u16 = 12 * Length::FIELD;
 
     // Distance, and compass and clino by degrees and minutes, the clino with a sign.
-    const MEASURE_IN_MINUTES: u16 = Frame::LONG as u16 + 5 * Length::FIELD;
+    pub const MEASURE_IN_MINUTES: u16 = Frame::LONG as u16 + 5 * Length::FIELD;
 
     pub const ADD_IN_MINUTES: u16 = 8 * Length::FIELD + Length::MEASURE_IN_MINUTES;
 
@@ -124,10 +126,7 @@ impl Kind {
     pub fn is_edit(self) -> bool
         ensures { result ≡ is_edit_kind (kind_number self) }
     {
-        match self {
-            Kind::Step | Kind::Look | Kind::View => false,
-            _ => true,
-        }
+        !matches!(self, Kind::Step | Kind::Look | Kind::View)
     }
 
     // Whether this is what its length field may say. All but a view have one length.

@@ -13,10 +13,11 @@ use Rattle.words.specs.Tests.{distinct}
 use Rattle.words.specs.Words.{Words, most_named}
 use Rattle.words.proofs.Tests.{split}
 use Rattle.legs.specs.Positions.{Ranks}
+use Rattle.tickets.specs.declared.Target.{Target}
 use Rattle.tickets.specs.declared.Ticket as Slot
 use Rattle.tickets.specs.Tickets.{Ticket, has_ticket, well_made, SlotWellMade, slot_well_made}
 use Rattle.tickets.specs.Steps.{step_of}
-use Rattle.tickets.specs.Table.{stands_in, gathered, ElsewhereSame}
+use Rattle.tickets.specs.Table.{stands_in, gathered}
 use Rattle.tickets.proofs.Gathering.{gathered_has}
 use Rattle.edits.specs.declared.Edit.{Edit}
 use Rattle.edits.specs.Ranges.{edit_allowed}
@@ -32,7 +33,7 @@ use Rattle.frames.proofs.Headers.{edit_kind_lem, other_kind, fields_of_kind, fie
 use Rattle.decoder.proofs.Decoded.{only_allowed}
 use Rattle.calls.proofs.Refusing.{named_many}
 use Rattle.calls.specs.Way.{Aim}
-use Rattle.calls.specs.Way.{Settled, AimKnown, slot_of, settled_with, look_answer, open_settled, view_settled, step_settled, new_settled, EditFields, team_settled, look_settled, settled_by}
+use Rattle.calls.specs.Way.{Settled, AimKnown, settled_with, look_answer, open_settled, view_settled, step_settled, new_settled, EditFields, team_settled, look_settled, settled_by}
 use Rattle.replies.specs.Leaving.{LeftBy}
 use Rattle.handlers.specs.declared.Opened.{Opened}
 use Rattle.handlers.specs.Settling.{step_by, open_by, NoStep, SettledAs, slot_after, OpenedAs}
@@ -134,24 +135,22 @@ view_read_opens part view fields e =
     (same ∙ ap view_of (sym named), subst FineView (sym named) fine)
 
 -- What a frame leaves that opens no ticket: the slot and its targets as they were.
-pub left_unopened : (result : Settled) (targets : List ℕ) (team : ℕ) (slot : Slot.Ticket) (opened : Opened) (answer : Answer) (out : Bytes) (at place : ℕ) (output : Bytes)
-    → (opened.ticket ≡ None) × (opened.filled ≡ place) → settled_with (gathered targets team slot) answer ≡ result
+pub left_unopened : (result : Settled) (targets : List Target) (slot : Slot.Ticket) (opened : Opened) (answer : Answer) (out : Bytes) (at place : ℕ) (output : Bytes)
+    → (opened.ticket ≡ None) × (opened.filled ≡ place) → settled_with (gathered targets slot) answer ≡ result
     → PutAt out at (answer_frame answer) place output
-    → OpenedAs result targets targets team slot opened out at output
-left_unopened result targets team slot opened answer out at place output (closed, filled) is put = record {
-  ticket_left = ap (λ (o : Option Slot.Ticket). gathered targets team (unwrap_or o slot)) closed ∙ ap (λ (s : Settled). s.ticket) is;
-  others = record { below = λ place under. refl; above = λ place over. refl };
+    → OpenedAs result targets targets slot opened out at output
+left_unopened result targets slot opened answer out at place output (closed, filled) is put = record {
+  ticket_left = ap (λ (o : Option Slot.Ticket). gathered targets (unwrap_or o slot)) closed ∙ ap (λ (s : Settled). s.ticket) is;
   answered = subst (λ (p : ℕ). PutAt out at (answer_frame result.answer) p output) (sym filled) (subst (λ (a : Answer). PutAt out at (answer_frame a) place output) (ap (λ (s : Settled). s.answer) is) put);
 }
 
 -- And one that does: the ticket that its targets say.
-pub left_opened : (result : Settled) (before after : List ℕ) (team : ℕ) (slot ticket : Slot.Ticket) (opened : Opened) (answer : Answer) (out : Bytes) (at place : ℕ) (output : Bytes)
-    → opened ≡ record { ticket = Some ticket; filled = place } → settled_with (gathered after team ticket) answer ≡ result
-    → ElsewhereSame before after team → PutAt out at (answer_frame answer) place output
-    → OpenedAs result before after team slot opened out at output
-left_opened result before after team slot ticket opened answer out at place output is settled others put = record {
-  ticket_left = ap (λ (o : Opened). gathered after team (slot_after o slot)) is ∙ ap (λ (s : Settled). s.ticket) settled;
-  others = others;
+pub left_opened : (result : Settled) (before after : List Target) (slot ticket : Slot.Ticket) (opened : Opened) (answer : Answer) (out : Bytes) (at place : ℕ) (output : Bytes)
+    → opened ≡ record { ticket = Some ticket; filled = place } → settled_with (gathered after ticket) answer ≡ result
+    → PutAt out at (answer_frame answer) place output
+    → OpenedAs result before after slot opened out at output
+left_opened result before after slot ticket opened answer out at place output is settled put = record {
+  ticket_left = ap (λ (o : Opened). gathered after (slot_after o slot)) is ∙ ap (λ (s : Settled). s.ticket) settled;
   answered = subst (λ (p : ℕ). PutAt out at (answer_frame result.answer) p output) (ap (λ (o : Opened). o.filled) (sym is)) (subst (λ (a : Answer). PutAt out at (answer_frame a) place output) (ap (λ (s : Settled). s.answer) settled) put);
 }
 
@@ -182,14 +181,14 @@ unfolding settled_by look_settled
 look_by words ticket ranks frame = refl
 
 -- A slot that stands has a ticket, which is well made where the slot passes.
-pub stands_has : (targets : List ℕ) (team : ℕ) (slot : Slot.Ticket) → stands_in slot ≡ true → has_ticket (gathered targets team slot).phase ≡ true
-stands_has targets team slot stands = gathered_has targets team slot ∙ stands
+pub stands_has : (targets : List Target) (slot : Slot.Ticket) → stands_in slot ≡ true → has_ticket (gathered targets slot).phase ≡ true
+stands_has targets slot stands = gathered_has targets slot ∙ stands
 
-pub stands_not : (targets : List ℕ) (team : ℕ) (slot : Slot.Ticket) → stands_in slot ≡ false → has_ticket (gathered targets team slot).phase ≡ false
-stands_not targets team slot gone = gathered_has targets team slot ∙ gone
+pub stands_not : (targets : List Target) (slot : Slot.Ticket) → stands_in slot ≡ false → has_ticket (gathered targets slot).phase ≡ false
+stands_not targets slot gone = gathered_has targets slot ∙ gone
 
-pub passes_made : (targets : List ℕ) (team : ℕ) (slot : Slot.Ticket) (passes : Bool) → stands_in slot ≡ true → slot_well_made (gathered targets team slot) ≡ passes → well_made (gathered targets team slot) ≡ passes
-passes_made targets team slot passes stands is = sym (ap (λ b. cond b (well_made (gathered targets team slot)) true) (stands_has targets team slot stands)) ∙ is
+pub passes_made : (targets : List Target) (slot : Slot.Ticket) (passes : Bool) → stands_in slot ≡ true → slot_well_made (gathered targets slot) ≡ passes → well_made (gathered targets slot) ≡ passes
+passes_made targets slot passes stands is = sym (ap (λ b. cond b (well_made (gathered targets slot)) true) (stands_has targets slot stands)) ∙ is
 
 -- Where a slot is known to pass, its test says so.
 pub known_passes : (ticket : Ticket) → SlotWellMade ticket → true ≡ slot_well_made ticket
@@ -200,36 +199,32 @@ known_passes ticket passes = go (has_ticket ticket.phase) refl
     go false is = refl
 
 -- A step refused, and one that is made.
-pub step_refused : (words : Words) (targets : List ℕ) (team : ℕ) (slot left : Slot.Ticket) (number : ℕ) (out : Bytes) (at place : ℕ) (output : Bytes) → left ≡ slot
-    → ◌≡◌ {A = Settled × Words} (settled_with (gathered targets team slot) (Answer.Refused number), words) (step_by words (gathered targets team slot) team)
+pub step_refused : (words : Words) (targets : List Target) (team : ℕ) (slot left : Slot.Ticket) (number : ℕ) (out : Bytes) (at place : ℕ) (output : Bytes) → left ≡ slot
+    → ◌≡◌ {A = Settled × Words} (settled_with (gathered targets slot) (Answer.Refused number), words) (step_by words (gathered targets slot) team)
     → PutAt out at (answer_frame (Answer.Refused number)) place output
-    → SettledAs (step_by words (gathered targets team slot) team) targets team left words out at place output
+    → SettledAs (step_by words (gathered targets slot) team) targets left words out at place output
 step_refused words targets team slot left number out at place output same is put = record {
-  ticket_left = ap (gathered targets team) same ∙ ap (λ (r : Settled × Words). r.0.ticket) is;
+  ticket_left = ap (gathered targets) same ∙ ap (λ (r : Settled × Words). r.0.ticket) is;
   words_left = ap (λ (r : Settled × Words). r.1) is;
   answered = subst (λ (r : Settled × Words). PutAt out at (answer_frame r.0.answer) place output) is put;
 }
 
-pub step_left : (words : Words) (targets targets_after : List ℕ) (team : ℕ) (slot left : Slot.Ticket) (after : Words) (out : Bytes) (at place : ℕ) (output : Bytes)
-    → has_ticket (gathered targets team slot).phase ≡ true → well_made (gathered targets team slot) ≡ true
-    → LeftBy (step_of words (gathered targets team slot) team) targets_after team left after out at place output
-    → SettledAs (step_by words (gathered targets team slot) team) targets_after team left after out at place output
+pub step_left : (words : Words) (targets targets_after : List Target) (team : ℕ) (slot left : Slot.Ticket) (after : Words) (out : Bytes) (at place : ℕ) (output : Bytes)
+    → has_ticket (gathered targets slot).phase ≡ true → well_made (gathered targets slot) ≡ true
+    → LeftBy (step_of words (gathered targets slot) team) targets_after left after out at place output
+    → SettledAs (step_by words (gathered targets slot) team) targets_after left after out at place output
 step_left words targets targets_after team slot left after out at place output stands made by =
-    subst (λ (r : Settled × Words). SettledAs r targets_after team left after out at place output) (steps_made words (gathered targets team slot) team stands made)
+    subst (λ (r : Settled × Words). SettledAs r targets_after left after out at place output) (steps_made words (gathered targets slot) team stands made)
     record { ticket_left = by.ticket_left; words_left = by.words_left; answered = by.answered }
 
--- What changes no target is the same elsewhere.
-pub same_there : (targets : List ℕ) (team : ℕ) → ElsewhereSame targets targets team
-same_there targets team = record { below = λ place under. refl; above = λ place over. refl }
-
 -- What a frame leaves, by another way to say what it settles,
-pub settled_so : {first second : Settled} {before after : List ℕ} {team : ℕ} {slot : Slot.Ticket} {opened : Opened} {out : Bytes} {at : ℕ} {output : Bytes} → first ≡ second
-    → OpenedAs first before after team slot opened out at output → OpenedAs second before after team slot opened out at output
-settled_so {first} {second} {before} {after} {team} {slot} {opened} {out} {at} {output} is by = subst (λ (r : Settled). OpenedAs r before after team slot opened out at output) is by
+pub settled_so : {first second : Settled} {before after : List Target} {slot : Slot.Ticket} {opened : Opened} {out : Bytes} {at : ℕ} {output : Bytes} → first ≡ second
+    → OpenedAs first before after slot opened out at output → OpenedAs second before after slot opened out at output
+settled_so {first} {second} {before} {after} {slot} {opened} {out} {at} {output} is by = subst (λ (r : Settled). OpenedAs r before after slot opened out at output) is by
 
 -- and by the aim that it was found to have.
-pub aimed_so : (words : Words) (targets : List ℕ) (ranks : Ranks) (frame : Bytes) (slot : Slot.Ticket) {first second : Result Aim ℕ} {after : List ℕ} {opened : Opened} {out : Bytes} {at : ℕ} {output : Bytes} → first ≡ second
-    → OpenedAs (settled_by words (gathered targets (slot_of second) slot) ranks frame second).0 targets after (slot_of second) slot opened out at output
-    → OpenedAs (settled_by words (gathered targets (slot_of first) slot) ranks frame first).0 targets after (slot_of first) slot opened out at output
+pub aimed_so : (words : Words) (targets : List Target) (ranks : Ranks) (frame : Bytes) (slot : Slot.Ticket) {first second : Result Aim ℕ} {after : List Target} {opened : Opened} {out : Bytes} {at : ℕ} {output : Bytes} → first ≡ second
+    → OpenedAs (settled_by words (gathered targets slot) ranks frame second).0 targets after slot opened out at output
+    → OpenedAs (settled_by words (gathered targets slot) ranks frame first).0 targets after slot opened out at output
 aimed_so words targets ranks frame slot {first} {second} {after} {opened} {out} {at} {output} is by =
-    subst (λ (a : Result Aim ℕ). OpenedAs (settled_by words (gathered targets (slot_of a) slot) ranks frame a).0 targets after (slot_of a) slot opened out at output) (sym is) by
+    subst (λ (a : Result Aim ℕ). OpenedAs (settled_by words (gathered targets slot) ranks frame a).0 targets after slot opened out at output) (sym is) by

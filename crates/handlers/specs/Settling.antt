@@ -2,10 +2,11 @@
 use Rattle.std.specs.Prelude.{ℕ, ◌≡◌, false, cond, List, eqb, length, unwrap_or, Result, Ok, Err}
 use Rattle.words.specs.Words.{Words}
 use Rattle.legs.specs.Positions.{Ranks}
+use Rattle.tickets.specs.declared.Target.{Target}
 use Rattle.tickets.specs.declared.Ticket as Slot
 use Rattle.tickets.specs.Tickets.{Ticket, has_ticket, well_made}
 use Rattle.tickets.specs.Steps.{step_of}
-use Rattle.tickets.specs.Table.{gathered, ElsewhereSame}
+use Rattle.tickets.specs.Table.{gathered}
 use Rattle.frames.specs.declared.Answer.TheVariants as Answer
 use Rattle.frames.specs.Numbers.{Bytes}
 use Rattle.frames.specs.Requests.{step_kind}
@@ -38,24 +39,22 @@ NoStep (Ok Aim.Look) = Unit {0}
 NoStep (Ok (Aim.Team kind team)) = eqb kind step_kind ≡ false
 
 -- What a step leaves.
-pub record SettledAs (result : Settled × Words) (targets : List ℕ) (team : ℕ) (slot : Slot.Ticket) (words : Words) (out : Bytes) (at place : ℕ) (output : Bytes) : Type 0 where
-  pub ticket_left : gathered targets team slot ≡ result.0.ticket
+pub record SettledAs (result : Settled × Words) (targets : List Target) (slot : Slot.Ticket) (words : Words) (out : Bytes) (at place : ℕ) (output : Bytes) : Type 0 where
+  pub ticket_left : gathered targets slot ≡ result.0.ticket
   pub words_left : words ≡ result.1
   pub answered : PutAt out at (answer_frame result.0.answer) place output
 
 -- What a step off the fast way leaves: that of a claim which missed there changes no word and no target; any other is made here.
-pub record StepLeft (before : Words) (targets_before : List ℕ) (team : ℕ) (slot : Slot.Ticket) (tried : Tried) (left : Slot.Ticket) (after : Words) (targets : List ℕ) (out : Bytes) (at place : ℕ) (output : Bytes) : Type 0 where
-  pub others : ElsewhereSame targets_before targets team
+pub record StepLeft (before : Words) (targets_before : List Target) (team : ℕ) (slot : Slot.Ticket) (tried : Tried) (left : Slot.Ticket) (after : Words) (targets : List Target) (out : Bytes) (at place : ℕ) (output : Bytes) : Type 0 where
   pub whole : length after ≡ length before
-  pub missed : (found : ℕ) → tried ≡ Missed found → (targets ≡ targets_before) × (after ≡ before) × MissLeft targets_before team slot found left out at place output
-  pub made : ((found : ℕ) → tried ≡ Missed found → ⊥) → SettledAs (step_by before (gathered targets_before team slot) team) targets team left after out at place output
+  pub missed : (found : ℕ) → tried ≡ Missed found → (targets ≡ targets_before) × (after ≡ before) × MissLeft targets_before slot found left out at place output
+  pub made : ((found : ℕ) → tried ≡ Missed found → ⊥) → SettledAs (step_by before (gathered targets_before slot) team) targets left after out at place output
 
 -- The slot after a frame that may have opened a ticket.
 abbrev pub slot_after : Opened → Slot.Ticket → Slot.Ticket
 slot_after opened slot = unwrap_or opened.ticket slot
 
--- What such a frame leaves: it changes no word, and no other team's targets.
-pub record OpenedAs (result : Settled) (before after : List ℕ) (team : ℕ) (slot : Slot.Ticket) (opened : Opened) (out : Bytes) (at : ℕ) (output : Bytes) : Type 0 where
-  pub ticket_left : gathered after team (slot_after opened slot) ≡ result.ticket
-  pub others : ElsewhereSame before after team
+-- What such a frame leaves: it changes no word.
+pub record OpenedAs (result : Settled) (before after : List Target) (slot : Slot.Ticket) (opened : Opened) (out : Bytes) (at : ℕ) (output : Bytes) : Type 0 where
+  pub ticket_left : gathered after (slot_after opened slot) ≡ result.ticket
   pub answered : PutAt out at (answer_frame result.answer) opened.filled output

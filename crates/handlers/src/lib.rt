@@ -6,7 +6,7 @@ ghost use Rattle.std.specs.Prelude.{◌≡◌, ℕ, true, None, ◌-◌, ◌≤�
 ghost use Rattle.words.specs.Words.{words_in_book, team_count};
 ghost use Rattle.tickets.specs.declared.Ticket as Slot;
 ghost use Rattle.tickets.specs.Tickets.{SlotWellMade, slot_well_made};
-ghost use Rattle.tickets.specs.Table.{gathered, ElsewhereSame};
+ghost use Rattle.tickets.specs.Table.{gathered};
 ghost use Rattle.frames.specs.Requests.{part_after_kind, view_words_in, step_kind};
 ghost use Rattle.frames.specs.Numbers.{number16};
 ghost use Rattle.frames.specs.Fields.{Whole, ViewFields, read_edit, view_read};
@@ -26,7 +26,7 @@ use frames::{Answer, Kind, Refusal};
 use legs::AcceptedRanks;
 use quick::Tried;
 use replies::Left;
-use tickets::{Ticket, Tickets};
+use tickets::{Target, Ticket, Tickets};
 use words::Limits;
 
 // What an edit or a view that asks for a ticket leaves: the ticket that it opens, if it does, and the place behind the answer.
@@ -68,20 +68,19 @@ fn unopened(filled: usize) -> Opened
 }
 
 fn open_edit(
-    targets: &mut [u64; Tickets::NUMBERS],
+    targets: &mut [Target; Tickets::ROOM],
     ranks: &AcceptedRanks,
-    slot: usize,
     kind: Kind,
     part: &[u8],
     out: &mut [u8],
     at: usize,
 ) -> Opened
-    requires { (slot < team_count) × EditFields part.now (kind_number kind) × RoomAt out.old at }
-    ensures { (ticket : Slot.Ticket) → OpenedAs (open_settled (gathered targets.old slot ticket) ranks.now (read_edit (kind_number kind) part.now)) targets.old targets.new slot ticket result out.old at out.new }
+    requires { EditFields part.now (kind_number kind) × RoomAt out.old at }
+    ensures { (ticket : Slot.Ticket) → OpenedAs (open_settled (gathered targets.old ticket) ranks.now (read_edit (kind_number kind) part.now)) targets.old targets.new ticket result out.old at out.new }
 {
     match decoder::read_edit(kind, part) {
         Ok(edit) => {
-            let n = opening::open(targets, ranks, slot, edit);
+            let n = opening::open(targets, ranks, edit);
             let filled = replies::put(out, at, Answer::Standing(n));
             Opened {
                 ticket: Some(Ticket::edit(n)),
@@ -96,19 +95,18 @@ fn open_edit(
 }
 
 fn open_view(
-    targets: &mut [u64; Tickets::NUMBERS],
+    targets: &mut [Target; Tickets::ROOM],
     ranks: &AcceptedRanks,
-    slot: usize,
     part: &[u8],
     out: &mut [u8],
     at: usize,
 ) -> Opened
-    requires { (slot < team_count) × ViewFields part.now × RoomAt out.old at }
-    ensures { (ticket : Slot.Ticket) → OpenedAs (view_settled (gathered targets.old slot ticket) ranks.now (view_read (number16 part.now 2) (view_words_in part.now))) targets.old targets.new slot ticket result out.old at out.new }
+    requires { ViewFields part.now × RoomAt out.old at }
+    ensures { (ticket : Slot.Ticket) → OpenedAs (view_settled (gathered targets.old ticket) ranks.now (view_read (number16 part.now 2) (view_words_in part.now))) targets.old targets.new ticket result out.old at out.new }
 {
     match decoder::read_view(part) {
         Ok(view) => {
-            opening::open_view(targets, ranks, slot, view);
+            opening::open_view(targets, ranks, view);
             let filled = replies::put(out, at, Answer::Standing(view.n));
             Opened {
                 ticket: Some(Ticket::view(view.n)),
@@ -123,24 +121,19 @@ fn open_view(
 }
 
 // Whether a slot passes: in a table of which that is known it is not tested again.
-fn known_well_made(
-    targets: &[u64; Tickets::NUMBERS],
-    slot: usize,
-    ticket: Ticket,
-    known: bool,
-) -> bool
-    requires { (slot < team_count) × (known ≡ true → SlotWellMade (gathered targets.now slot ticket)) }
-    ensures { result ≡ slot_well_made (gathered targets.now slot ticket) }
+fn known_well_made(targets: &[Target; Tickets::ROOM], ticket: Ticket, known: bool) -> bool
+    requires { known ≡ true → SlotWellMade (gathered targets.now ticket) }
+    ensures { result ≡ slot_well_made (gathered targets.now ticket) }
 {
     if known {
         return true;
     }
-    making::slot_well_made(targets, slot, ticket)
+    making::slot_well_made(targets, ticket)
 }
 
 // A team's frame that is no step: refused over a ticket, else an edit or a view that asks for one.
 fn open(
-    targets: &mut [u64; Tickets::NUMBERS],
+    targets: &mut [Target; Tickets::ROOM],
     ranks: &AcceptedRanks,
     ticket: Ticket,
     frame: &[u8],
@@ -150,11 +143,10 @@ fn open(
     at: usize,
 ) -> Opened
     requires { AimKnown frame.now (Ok (aimed (Aim.Team kind team))) × NoStep (Ok (aimed (Aim.Team kind team))) × RoomAt out.old at }
-    ensures { OpenedAs (open_by (gathered targets.old team ticket) ranks.now (part_after_kind frame.now) (kind_number kind)) targets.old targets.new team ticket result out.old at out.new }
+    ensures { OpenedAs (open_by (gathered targets.old ticket) ranks.now (part_after_kind frame.now) (kind_number kind)) targets.old targets.new ticket result out.old at out.new }
 {
-    let slot = team as usize;
     if ticket.stands() {
-        if making::slot_well_made(targets, slot, ticket) {
+        if making::slot_well_made(targets, ticket) {
             let filled = put_refused(out, at, Refusal::Standing);
             return unopened(filled);
         }
@@ -163,15 +155,15 @@ fn open(
     }
     let part = frames::head::part_after_kind(frame);
     if kind.is_edit() {
-        return open_edit(targets, ranks, slot, kind, part, out, at);
+        return open_edit(targets, ranks, kind, part, out, at);
     }
-    open_view(targets, ranks, slot, part, out, at)
+    open_view(targets, ranks, part, out, at)
 }
 
 // A frame that is no team's step: it changes no word.
 pub fn other_frame(
     book: &[u64],
-    targets: &mut [u64; Tickets::NUMBERS],
+    targets: &mut [Target; Tickets::ROOM],
     ranks: &AcceptedRanks,
     ticket: Ticket,
     frame: &[u8],
@@ -180,7 +172,7 @@ pub fn other_frame(
     at: usize,
 ) -> Opened
     requires { (length book.now ≡ words_in_book) × AimKnown frame.now (aim_numbered aim) × NoStep (aim_numbered aim) × RoomAt out.old at }
-    ensures { OpenedAs (settled_by book.now (gathered targets.old (slot_of (aim_numbered aim)) ticket) ranks.now frame.now (aim_numbered aim)).0 targets.old targets.new (slot_of (aim_numbered aim)) ticket result out.old at out.new }
+    ensures { OpenedAs (settled_by book.now (gathered targets.old ticket) ranks.now frame.now (aim_numbered aim)).0 targets.old targets.new ticket result out.old at out.new }
 {
     let aim = match aim {
         Ok(aim) => aim,
@@ -212,25 +204,25 @@ fn refuse(ticket: Ticket, refusal: Refusal, out: &mut [u8], at: usize) -> Left
 // A step that does not go through on the fast way: a claim that missed there, or one that was not tried there.
 pub fn other_step(
     book: &mut [u64],
-    targets: &mut [u64; Tickets::NUMBERS],
+    targets: &mut [Target; Tickets::ROOM],
     ticket: Ticket,
-    slot: usize,
+    team: usize,
     tried: Tried,
     known: bool,
     out: &mut [u8],
     at: usize,
 ) -> Left
-    requires { (length book.old ≡ words_in_book) × (slot < team_count) × ((found : ℕ) → tried ≡ Missed found → MissesIn targets.old slot ticket out.old at) × (known ≡ true → SlotWellMade (gathered targets.old slot ticket)) × RoomAt out.old at }
-    ensures { StepLeft book.old targets.old slot ticket tried result.ticket book.new targets.new out.old at result.filled out.new }
+    requires { (length book.old ≡ words_in_book) × (team < team_count) × ((found : ℕ) → tried ≡ Missed found → MissesIn targets.old ticket out.old at) × (known ≡ true → SlotWellMade (gathered targets.old ticket)) × RoomAt out.old at }
+    ensures { StepLeft book.old targets.old team ticket tried result.ticket book.new targets.new out.old at result.filled out.new }
 {
     if let Tried::Missed(found) = tried {
-        return claiming::missed(targets, ticket, slot, found, out, at);
+        return claiming::missed(targets, ticket, found, out, at);
     }
     if !ticket.stands() {
         return refuse(ticket, Refusal::NoTicket, out, at);
     }
-    if !known_well_made(targets, slot, ticket, known) {
+    if !known_well_made(targets, ticket, known) {
         return refuse(ticket, Refusal::Ticket, out, at);
     }
-    steps::step(book, targets, ticket, slot, out, at)
+    steps::step(book, targets, ticket, team, out, at)
 }

@@ -6,7 +6,7 @@
 // - Fresh (1): zero words, and no ticket. Writes nothing, as the next three.
 // - Word (2): the word of that number becomes the value carried, 64 bits.
 // - Slot (3): the slot of the team of that number becomes the one carried, in the form of `desk`.
-// - Target (4): the number at that place of the table's targets becomes the one carried, 64 bits.
+// - Target (4): the number at that place of all teams' targets, one team's behind another's, becomes the one carried, 64 bits.
 // - Frame (5): the bytes carried are the frame; beside the book so many bytes of output are lent, each with that number in it.
 // - Read (6): a reading of the place and the measure carried, 64 bits each.
 //
@@ -15,12 +15,12 @@
 #![tactic(auto)]
 
 use desk::records::{Call, Records, UnknownTag};
-use desk::text::{Bytes, Numbers};
+use desk::text::{Bytes, Targets};
 use desk::{Room, text};
 use legs::{Leg, Measure, Stations};
 use std::io;
 use std::io::{Print, Stdout};
-use tickets::{Phase, Ticket, Tickets};
+use tickets::{Phase, Slot, Ticket, Tickets};
 
 enum Tag {
     Title,
@@ -62,25 +62,24 @@ fn name_of(phase: Phase) -> &'static str {
 }
 
 // A ticket and its first n targets, or those that there is room for.
-fn tell_ticket(stdout: Stdout, team: usize, ticket: Ticket, room: &[u64]) -> io::Result<()> {
-    let phase = name_of(ticket.phase());
+fn tell_ticket(stdout: Stdout, team: usize, slot: &Slot) -> io::Result<()> {
+    let phase = name_of(slot.ticket.phase());
     let Ticket {
         tries,
         n,
         claimed,
         done,
         ..
-    } = ticket;
-    let many = room.len().min(Tickets::TARGET * n as usize);
-    let targets = Numbers(&room[..many]);
+    } = slot.ticket;
+    let many = Tickets::ROOM.min(n as usize);
+    let targets = Targets(&slot.targets[..many]);
     println!(stdout; "ticket {team} {phase} {n} {claimed} {done} {tries} :{targets}")
 }
 
 fn tell_tickets(stdout: Stdout, tickets: &Tickets) -> io::Result<()> {
-    let rooms = tickets.targets.chunks(Tickets::TARGET * Tickets::ROOM);
-    for (team, (ticket, room)) in tickets.slots.iter().zip(rooms).enumerate() {
-        if ticket.stands() {
-            tell_ticket(stdout, team, *ticket, room)?;
+    for (team, slot) in tickets.slots.iter().enumerate() {
+        if slot.ticket.stands() {
+            tell_ticket(stdout, team, slot)?;
         }
     }
     Ok(())
@@ -134,15 +133,16 @@ impl State {
         }
     }
 
-    fn set_target(&mut self, target: usize, carried: &[u8]) {
-        if let Some(place) = self.tickets.targets.get_mut(target) {
-            *place = Records::of(carried).next().unwrap_or(0);
+    fn set_target(&mut self, place: usize, carried: &[u8]) {
+        if let Some(slot) = self.tickets.slots.get_mut(place / Room::NUMBERS) {
+            let number = Records::of(carried).next().unwrap_or(0);
+            desk::set_number(&mut slot.targets, place % Room::NUMBERS, number);
         }
     }
 
     fn set_slot(&mut self, team: usize, carried: &[u8]) {
         if let Some(slot) = self.tickets.slots.get_mut(team) {
-            *slot = Records::of(carried).next().unwrap_or(Ticket::none());
+            slot.ticket = Records::of(carried).next().unwrap_or(Ticket::none());
         }
     }
 

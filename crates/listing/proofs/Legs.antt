@@ -9,7 +9,6 @@ use Rattle.words.specs.Words.{Words, passage_count}
 use Rattle.plain.specs.Plain.{NumberedLeg}
 use Rattle.soundness.specs.InWords.{list_in, lists_from, plain_in}
 use Rattle.meeting.specs.Meeting.{meets, those_meeting, legs_at, listed_words}
-use Rattle.listing.specs.Listing.{two_if}
 
 listed_append : (a b : List NumberedLeg) → listed_words (a ++ b) ≡ listed_words a ++ listed_words b
 unfolding listed_words
@@ -59,11 +58,12 @@ pub plain_lists : (words : Words) → plain_in FourWords words ≡ lists_from (l
 unfolding plain_in
 plain_lists words = refl
 
--- One leg alone.
-pub listed_one : (station : ℕ) (leg : NumberedLeg) → listed_words (those_meeting station (leg ∷ [])) ≡ two_if (meets station leg) leg.number leg.measure.distance
-unfolding those_meeting listed_words
-listed_one station leg = by (meets station leg)
-  where
-    by : (b : Bool) → listed_words (cond b (leg ∷ []) []) ≡ two_if b leg.number leg.measure.distance
-    by true = refl
-    by false = refl
+-- One leg alone, that is there or not.
+module _ (station : ℕ) (leg : NumberedLeg) where
+  pub listed_there : meets station leg ≡ true → listed_words (those_meeting station (leg ∷ [])) ≡ leg.number ∷ leg.measure.distance ∷ []
+  unfolding those_meeting listed_words
+  listed_there there = rw there
+
+  pub listed_elsewhere : meets station leg ≡ false → listed_words (those_meeting station (leg ∷ [])) ≡ []
+  unfolding those_meeting listed_words
+  listed_elsewhere there = rw there

@@ -2,14 +2,14 @@
 use Prim.Native.Nat.{ℕ, ◌+◌, ◌≤◌, ◌<◌}
 use mathlib.Core.Path.{◌≡◌, refl, ap, ◌∙◌}
 use mathlib.Core.List.{List, [], ◌∷◌, ◌++◌, map}
-use mathlib.Core.Bool.{Bool, true, false, cond, not}
+use mathlib.Core.Bool.{Bool, true, false, cond}
 use mathlib.Core.Logic.{◌≢◌}
 use lib.Dec.{eqb}
 use lib.ListN.{length, get_or, drop}
 use borrow.Author.Tests.{eq-eqb, ne_eqb}
 use Rattle.meeting.specs.Meeting.{Pair, pair, pairs_of, pair_words}
 use Rattle.stations.specs.Counting.{present_from}
-use Rattle.listing.specs.Listing.{pairs_with, two_if}
+use Rattle.listing.specs.Listing.{pairs_with}
 use Rattle.stations.proofs.Counting.{counts_from, counts_past}
 
 pair_words_append : (a b : List Pair) → pair_words (a ++ b) ≡ pair_words a ++ pair_words b
@@ -24,19 +24,18 @@ with_none counts lower none = rw (eq-eqb (get_or counts lower 0) 0 none)
 pub with_some : (counts : List ℕ) (lower : ℕ) → get_or counts lower 0 ≢ 0 → pairs_with counts lower ≡ map (pair lower) (present_from (lower + 1) (drop (lower + 1) counts))
 with_some counts lower some = rw (ne_eqb (get_or counts lower 0) 0 some)
 
--- The pairs of a lower passage with those from a higher one on.
-pub pairs_next : (counts : List ℕ) (lower higher : ℕ) → higher < length counts
-    → pair_words (map (pair lower) (present_from higher (drop higher counts)))
-    ≡ two_if (not (eqb (get_or counts higher 0) 0)) lower higher ++ pair_words (map (pair lower) (present_from (higher + 1) (drop (higher + 1) counts)))
-unfolding present_from pair_words
-pairs_next counts lower higher inside = ap (λ l. pair_words (map (pair lower) (present_from higher l))) (counts_from counts higher inside) ∙ by (eqb (get_or counts higher 0) 0)
-  where
-    later : List ℕ
-    later = present_from (higher + 1) (drop (higher + 1) counts)
+-- The pairs of a lower passage with those from a higher one on, by whether that one has a leg there.
+module _ (counts : List ℕ) (lower higher : ℕ) (inside : higher < length counts) where
+  pub pair_next : get_or counts higher 0 ≢ 0
+      → pair_words (map (pair lower) (present_from higher (drop higher counts)))
+      ≡ (lower ∷ higher ∷ []) ++ pair_words (map (pair lower) (present_from (higher + 1) (drop (higher + 1) counts)))
+  unfolding present_from pair_words
+  pair_next some = ap (λ l. pair_words (map (pair lower) (present_from higher l))) (counts_from counts higher inside) ∙ rw (ne_eqb (get_or counts higher 0) 0 some)
 
-    by : (none : Bool) → pair_words (map (pair lower) (cond none later (higher ∷ later))) ≡ two_if (not none) lower higher ++ pair_words (map (pair lower) later)
-    by true = refl
-    by false = refl
+  pub pair_passed : get_or counts higher 0 ≡ 0
+      → pair_words (map (pair lower) (present_from higher (drop higher counts))) ≡ [] ++ pair_words (map (pair lower) (present_from (higher + 1) (drop (higher + 1) counts)))
+  unfolding present_from pair_words
+  pair_passed none = ap (λ l. pair_words (map (pair lower) (present_from higher l))) (counts_from counts higher inside) ∙ rw (eq-eqb (get_or counts higher 0) 0 none)
 
 -- The pairs from a lower passage on.
 pub lower_next : (counts : List ℕ) (lower : ℕ) → lower < length counts

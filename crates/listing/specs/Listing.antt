@@ -1,5 +1,5 @@
 -- How the list of a station is written: words put one after another, each part where the one before it ended.
-use Rattle.std.specs.Prelude.{ℕ, ◌+◌, List, [], ◌∷◌, map, Bool, cond, eqb, length, get_or, drop}
+use Rattle.std.specs.Prelude.{ℕ, ◌+◌, List, [], map, cond, eqb, length, get_or, drop}
 use Rattle.std.proofs.lemmas.List.Edits.{sets}
 use Rattle.words.specs.Words.{Words}
 use Rattle.meeting.specs.Meeting.{Pair, pair}
@@ -12,7 +12,3 @@ pairs_with counts lower = cond (eqb (get_or counts lower 0) 0) [] (map (pair low
 -- Words put at a place of the output, and the place behind them.
 abbrev pub wrote : Words → ℕ → Words → ℕ × Words
 wrote out at words = (at + length words, sets out at words)
-
--- Two words, where they are wanted.
-abbrev pub two_if : Bool → ℕ → ℕ → Words
-two_if wanted first second = cond wanted (first ∷ second ∷ []) []

@@ -8,7 +8,7 @@ ghost use Rattle.soundness.specs.InWords.{list_in, plain_in};
 ghost use Rattle.meeting.specs.Meeting.{those_meeting, legs_at, pairs_of, listed_words, pair_words};
 ghost use Rattle.stations.specs.Chains.{leg_of};
 ghost use Rattle.stations.specs.Counting.{present_from};
-ghost use Rattle.listing.specs.Listing.{pairs_with, two_if};
+ghost use Rattle.listing.specs.Listing.{pairs_with};
 ghost use Rattle.listing.specs.Writing.{HasRoom, HasWritten};
 
 use legs::distance_in;
@@ -31,14 +31,11 @@ impl<'a> Output<'a> {
         self.at += 1;
     }
 
-    // Puts two words, if they are wanted.
-    fn put_two_if(&mut self, wanted: bool, first: u64, second: u64)
-        requires { HasRoom self.old (two_if wanted first second) }
-        ensures { HasWritten self.old (two_if wanted first second) self.new }
+    // Puts the two words of a leg, or of a pair.
+    fn put_two(&mut self, first: u64, second: u64)
+        requires { HasRoom self.old (first ∷ second ∷ []) }
+        ensures { HasWritten self.old (first ∷ second ∷ []) self.new }
     {
-        if !wanted {
-            return;
-        }
         self.words[self.at] = first;
         self.words[self.at + 1] = second;
         self.at += Size::ENTRY;
@@ -49,9 +46,9 @@ fn write_leg(leg: WrittenLeg, station: u16, out: &mut Output)
     requires { HasRoom out.old (listed_words (those_meeting station (leg_of leg ∷ []))) }
     ensures { HasWritten out.old (listed_words (those_meeting station (leg_of leg ∷ []))) out.new }
 {
-    let there = leg.is_at(station);
-    let distance = distance_in(leg.measure);
-    out.put_two_if(there, u64::from(leg.number), distance);
+    if leg.is_at(station) {
+        out.put_two(u64::from(leg.number), distance_in(leg.measure));
+    }
 }
 
 // Writes the legs of a passage that are there, newest first.
@@ -83,8 +80,9 @@ fn write_pairs_with(counts: [usize; Limits::PASSAGES as usize], lower: usize, ou
         return;
     }
     for higher in lower + 1..Limits::PASSAGES as usize {
-        let there = counts[higher] != 0;
-        out.put_two_if(there, lower as u64, higher as u64);
+        if counts[higher] != 0 {
+            out.put_two(lower as u64, higher as u64);
+        }
     }
 }
 

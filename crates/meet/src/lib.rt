@@ -12,7 +12,7 @@ use frames::Refusal;
 use listing::{Output, write_legs, write_pairs};
 use sound::is_plain;
 use stations::{Size, SoundBook, counts_at, size_of};
-use words::Limits;
+use words::{LegLayout, Limits};
 
 // Writes the whole list, for which the output has room, and returns its length.
 fn write_list(
@@ -44,7 +44,7 @@ pub fn meet(book: &[u64], station: u16, out: &mut [u64]) -> Result<usize, Refusa
     let Some(whole) = book.as_array::<{ Limits::WORDS }>() else {
         return Err(Refusal::Book);
     };
-    if !is_plain(whole) {
+    if !is_plain(whole, LegLayout::FourWords) {
         return Err(Refusal::Unsound);
     }
     let sound = SoundBook { words: whole };

@@ -7,6 +7,7 @@ use borrow.Author.Tests.{le-leb, lt-leb, eq-eqb, ne_eqb}
 use lib.Dec.{eqb}
 use Rattle.words.specs.Words.{Words, is_held, swap_of}
 use Rattle.tickets.specs.declared.SwapTried.{SwapTried}
+use Rattle.tickets.specs.declared.Target.{Target}
 use Rattle.tickets.specs.declared.Ticket as Slot
 use Rattle.tickets.specs.Steps.{swap_tried}
 use Rattle.tickets.specs.Table.{gathered}
@@ -66,9 +67,9 @@ went_same found expected same = sym (ap (λ b. cond b true (is_held expected)) (
 pub went_other : (found expected : ℕ) → (found ≡ expected → ⊥) → is_held expected ≡ went_by found expected
 went_other found expected other = sym (ap (λ b. cond b true (is_held expected)) (ne_eqb found expected other))
 
-module _ (words : Words) (targets : List ℕ) (team : ℕ) (slot : Slot.Ticket) (quick : ℕ) where
+module _ (words : Words) (targets : List Target) (team : ℕ) (slot : Slot.Ticket) (quick : ℕ) where
   abbrev tried_if : Bool → Tried × Words
-  tried_if none = cond none (Untried, words) (quick_made words (gathered targets team slot) team (claims_quick slot))
+  tried_if none = cond none (Untried, words) (quick_made words (gathered targets slot) team (claims_quick slot))
 
   -- Nothing is tried where too many are done,
   pub not_tried : quick ≤ slot.done → quick_tried words targets team slot quick ≡ (Untried, words)
@@ -76,13 +77,13 @@ module _ (words : Words) (targets : List ℕ) (team : ℕ) (slot : Slot.Ticket) 
   not_tried over = ap tried_if (le-leb quick slot.done over)
 
   -- and else one swap.
-  pub is_tried : slot.done < quick → quick_tried words targets team slot quick ≡ quick_made words (gathered targets team slot) team (claims_quick slot)
+  pub is_tried : slot.done < quick → quick_tried words targets team slot quick ≡ quick_made words (gathered targets slot) team (claims_quick slot)
   unfolding quick_tried
   is_tried below = ap tried_if (lt-leb quick slot.done below)
 
   pub tried_by : (swap : SwapTried) (found : ℕ) (after : Words) (went : Bool)
       → slot.done < quick
-      → swap ≡ swap_tried words (gathered targets team slot) team
+      → swap ≡ swap_tried words (gathered targets slot) team
       → found ≡ (swap_of words swap.word swap.expected swap.desired).found
       → after ≡ (swap_of words swap.word swap.expected swap.desired).words
       → went ≡ went_by found swap.expected

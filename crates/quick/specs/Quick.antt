@@ -4,6 +4,7 @@ use Rattle.words.specs.Words.{Words, is_held, swap_of}
 use Rattle.tickets.specs.declared.Kind.{Kind}
 use Rattle.tickets.specs.declared.Kind.TheVariants.{Edit, Stale, View}
 use Rattle.tickets.specs.declared.Phase.TheVariants.{Claiming}
+use Rattle.tickets.specs.declared.Target.{Target}
 use Rattle.tickets.specs.declared.Ticket as Slot
 use Rattle.tickets.specs.declared.StepAnswer.{StepAnswer}
 use Rattle.tickets.specs.declared.StepAnswer.TheVariants as Answer
@@ -17,11 +18,11 @@ use Rattle.quick.specs.declared.Tried.{Tried}
 use Rattle.quick.specs.declared.Tried.TheVariants.{Went, Missed, Untried}
 
 -- Where an edit's ticket may go the fast way: it is an edit's, stands, is well made, and claims wherever not all is claimed.
-pub record Quick (targets : List ℕ) (team : ℕ) (slot : Slot.Ticket) : Type 0 where
+pub record Quick (targets : List Target) (slot : Slot.Ticket) : Type 0 where
   pub edit : slot.kind ≡ Edit
   pub stands : slot.done < slot.n
   pub plain : (slot.done ≡ 0) ⊎ (slot.n ≤ slot.claimed)
-  pub made : well_made (gathered targets team slot) ≡ true
+  pub made : well_made (gathered targets slot) ≡ true
 
 -- Whether it claims wherever not all is claimed, as a test.
 abbrev pub is_plain : Slot.Ticket → Bool
@@ -52,11 +53,11 @@ quick_made words ticket team claims =
     (tried claims swap.found (cond (eqb swap.found next.expected) true (is_held next.expected)), swap.words)
 
 -- The next swap of a ticket with fewer done than may be on the fast way; else none.
-unfoldable pub quick_tried : Words → List ℕ → ℕ → Slot.Ticket → ℕ → Tried × Words
+unfoldable pub quick_tried : Words → List Target → ℕ → Slot.Ticket → ℕ → Tried × Words
 quick_tried words targets team slot quick =
     cond (leb quick slot.done)
     (Untried, words)
-    (quick_made words (gathered targets team slot) team (claims_quick slot))
+    (quick_made words (gathered targets slot) team (claims_quick slot))
 
 -- The ticket after a claim or a put that went through.
 abbrev pub advanced_by : Bool → Slot.Ticket → Slot.Ticket
@@ -79,21 +80,21 @@ told_answer claims after =
 -- Statement: a well-made ticket with fewer done than `quick_swaps` may go the fast way,
 abbrev pub QuickByCount : Type 0
 QuickByCount =
-    (targets : List ℕ) (team : ℕ) (slot : Slot.Ticket)
+    (targets : List Target) (slot : Slot.Ticket)
     → slot.done < quick_swaps slot
-    → well_made (gathered targets team slot) ≡ true
-    → Quick targets team slot
+    → well_made (gathered targets slot) ≡ true
+    → Quick targets slot
 
 -- and the fast way keeps that number.
 abbrev pub QuickKept : Type 0
 QuickKept =
-    (targets : List ℕ) (team : ℕ) (slot : Slot.Ticket)
-    → Quick targets team slot
+    (targets : List Target) (slot : Slot.Ticket)
+    → Quick targets slot
     → quick_swaps (advanced_by (claims_quick slot) slot) ≡ quick_swaps slot
 
 -- What a swap tried on the fast way says: where it went through the ticket may be advanced; where it missed it was a claim;
 -- and else none was tried.
-pub record TriedSays (words : Words) (targets : List ℕ) (team : ℕ) (slot : Slot.Ticket) (quick : ℕ) (result : Tried) (after : Words) : Type 0 where
+pub record TriedSays (words : Words) (targets : List Target) (team : ℕ) (slot : Slot.Ticket) (quick : ℕ) (result : Tried) (after : Words) : Type 0 where
   pub few_done : (claims : Bool) → result ≡ Went claims → slot.done < quick
   pub claims_is : (claims : Bool) → result ≡ Went claims → claims ≡ claims_quick slot
   pub advances : (claims : Bool) → result ≡ Went claims → AdvancesBy claims slot
@@ -104,27 +105,27 @@ pub record TriedSays (words : Words) (targets : List ℕ) (team : ℕ) (slot : S
 
 abbrev pub QuickSays : Type 0
 QuickSays =
-    (words : Words) (targets : List ℕ) (team : ℕ) (slot : Slot.Ticket) (quick : ℕ) (result : Tried) (after : Words)
-    → (slot.done < quick → Quick targets team slot)
+    (words : Words) (targets : List Target) (team : ℕ) (slot : Slot.Ticket) (quick : ℕ) (result : Tried) (after : Words)
+    → (slot.done < quick → Quick targets slot)
     → ◌≡◌ {A = Tried × Words} (result, after) (quick_tried words targets team slot quick)
     → TriedSays words targets team slot quick result after
 
 -- Statement: where the swap went through, it is the step: the ticket advanced, and the answer told.
 abbrev pub QuickIsStep : Type 0
 QuickIsStep =
-    (words : Words) (targets : List ℕ) (team : ℕ) (slot : Slot.Ticket) (quick : ℕ) (result : Tried) (after : Words) (claims : Bool)
-    → (slot.done < quick → Quick targets team slot)
+    (words : Words) (targets : List Target) (team : ℕ) (slot : Slot.Ticket) (quick : ℕ) (result : Tried) (after : Words) (claims : Bool)
+    → (slot.done < quick → Quick targets slot)
     → ◌≡◌ {A = Tried × Words} (result, after) (quick_tried words targets team slot quick)
     → result ≡ Went claims
     → let next = advanced_by claims slot in
-    ◌≡◌ {A = Stepped × Words} (step_of words (gathered targets team slot) team) (stepped (gathered targets team next) (told_answer claims next), after)
+    ◌≡◌ {A = Stepped × Words} (step_of words (gathered targets slot) team) (stepped (gathered targets next) (told_answer claims next), after)
 
 -- Statement: where a claim was tried and missed, the step is what `missed` leaves.
 abbrev pub QuickMissed : Type 0
 QuickMissed =
-    (words : Words) (targets : List ℕ) (team : ℕ) (slot : Slot.Ticket) (quick : ℕ) (result : Tried) (after : Words) (found : ℕ) (left : Slot.Ticket) (out : Bytes) (at place : ℕ) (output : Bytes)
-    → (slot.done < quick → Quick targets team slot)
+    (words : Words) (targets : List Target) (team : ℕ) (slot : Slot.Ticket) (quick : ℕ) (result : Tried) (after : Words) (found : ℕ) (left : Slot.Ticket) (out : Bytes) (at place : ℕ) (output : Bytes)
+    → (slot.done < quick → Quick targets slot)
     → ◌≡◌ {A = Tried × Words} (result, after) (quick_tried words targets team slot quick)
     → result ≡ Missed found
-    → MissLeft targets team slot found left out at place output
-    → LeftBy (step_of words (gathered targets team slot) team) targets team left after out at place output
+    → MissLeft targets slot found left out at place output
+    → LeftBy (step_of words (gathered targets slot) team) targets left after out at place output

@@ -11,7 +11,7 @@ ghost use Rattle.quick.specs.Quick.{Quick, is_plain, quick_swaps, quick_tried, a
 use encoder::AnswerKind;
 use frames::Frame;
 use frames::numbers::Bits;
-use tickets::{Kind, SwapTried, Ticket, Tickets};
+use tickets::{Kind, SwapTried, Target, Ticket, Tickets};
 
 // What came of the next swap of an edit on the fast way: it went through, told with whether it was a claim; or it was a claim
 // that missed, told with what it found; or none was tried.
@@ -51,20 +51,19 @@ pub fn quick_swaps(ticket: Ticket) -> u16
     }
 }
 
-// The next claim or put of an edit. The value is read by its place, so that no load hangs on a branch.
-fn swap_at(targets: &[u64; Tickets::NUMBERS], slot: usize, ticket: Ticket) -> SwapTried
-    requires { (slot < team_count) × Quick targets.now slot ticket }
-    ensures { ((words : Words) → result ≡ swap_tried words (gathered targets.now slot ticket) slot) × (result.word < words_in_book) }
+// The next claim or put of an edit. Both values are read, so that no load hangs on a branch.
+fn swap_at(targets: &[Target; Tickets::ROOM], team: usize, ticket: Ticket) -> SwapTried
+    requires { (team < team_count) × Quick targets.now ticket }
+    ensures { ((words : Words) → result ≡ swap_tried words (gathered targets.now ticket) team) × (result.word < words_in_book) }
 {
-    let mark = words::mark(slot as u16);
+    let mark = words::mark(team as u16);
     let claims = ticket.claimed < ticket.n;
     let k = chosen(claims, ticket.claimed, ticket.done);
-    let column = chosen(claims, 1, 2);
-    let at = Tickets::place(slot, k);
-    let value = targets[at + column];
-    let word = targets[at] as u16;
+    let target = targets[k as usize];
+    let word = target.word as u16;
+    let value = chosen(claims, target.quoted, target.new);
     SwapTried {
-        word: word,
+        word,
         expected: chosen(claims, value, mark),
         desired: chosen(claims, mark, value),
     }
@@ -73,19 +72,19 @@ fn swap_at(targets: &[u64; Tickets::NUMBERS], slot: usize, ticket: Ticket) -> Sw
 // Tries an edit's next swap. A put counts as done whatever it found.
 pub fn try_quick(
     book: &mut [u64],
-    targets: &[u64; Tickets::NUMBERS],
+    targets: &[Target; Tickets::ROOM],
     ticket: Ticket,
-    slot: usize,
+    team: usize,
     quick: u16,
 ) -> Tried
-    requires { (length book.old ≡ words_in_book) × (slot < team_count) × (ticket.done < quick → Quick targets.now slot ticket) }
-    ensures { (result, book.new) ≡ quick_tried book.old targets.now slot ticket quick }
+    requires { (length book.old ≡ words_in_book) × (team < team_count) × (ticket.done < quick → Quick targets.now ticket) }
+    ensures { (result, book.new) ≡ quick_tried book.old targets.now team ticket quick }
 {
     if quick <= ticket.done {
         return Tried::Untried;
     }
     let claims = ticket.claimed < ticket.n;
-    let swap = swap_at(targets, slot, ticket);
+    let swap = swap_at(targets, team, ticket);
     let at = swap.word as usize;
     let report = words::conditional_swap(book, at, swap.expected, swap.desired);
     let found = report.found;

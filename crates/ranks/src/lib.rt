@@ -1,7 +1,7 @@
 // The cave's own ranks: whether a table can be in force, and the load that puts one in force.
 #![tactic(auto)]
 
-ghost use Rattle.std.specs.Prelude.{◌≡◌};
+ghost use Rattle.std.specs.Prelude.{◌≡◌, cond, Some, None};
 ghost use Rattle.legs.specs.Positions.{is_permutation};
 ghost use Rattle.tickets.specs.Table.{table_of};
 ghost use Rattle.frames.specs.Refusals.{numbered};
@@ -9,6 +9,7 @@ ghost use Rattle.calls.specs.Loading.{load_of};
 ghost use Rattle.ranks.specs.Marking.{MarksOf};
 
 use frames::Refusal;
+use legs::AcceptedRanks;
 use making::any_stands;
 use tickets::Tickets;
 use words::Limits;
@@ -38,6 +39,16 @@ pub fn is_permutation(ranks: &[u16]) -> bool
     found.iter().all(|mark| *mark)
 }
 
+// The same ranks as accepted ones, if they can be in force.
+pub fn accepted(ranks: &[u16]) -> Option<AcceptedRanks>
+    ensures { result ≡ cond (is_permutation ranks.now) (Some ranks.now) None }
+{
+    if !is_permutation(ranks) {
+        return None;
+    }
+    Some(AcceptedRanks { numbers: ranks })
+}
+
 // The ranks in force become those loaded, unless the load is refused. It writes no word of the book.
 pub fn load(
     book: &[u64],
@@ -53,8 +64,7 @@ pub fn load(
     if !is_permutation(loaded) {
         return Err(Refusal::Ranks);
     }
-    let slots = tickets.slots;
-    if any_stands(slots) {
+    if any_stands(&tickets.slots) {
         return Err(Refusal::TicketStands);
     }
     ranks.copy_from_slice(loaded);

@@ -7,8 +7,9 @@ use native.Mathlib.Omega.{arith}
 use native.Mathlib.Decide.{dec_lt}
 use borrow.Author.Tests.{eqb-true, eqb-false, ltb-true, ltb-false, lt-ltb}
 use lib.Dec.{eqb, ltb}
-use Rattle.words.specs.Words.{words_in_book, team_count, most_targets}
+use Rattle.words.specs.Words.{words_in_book, most_targets}
 use Rattle.tickets.specs.declared.Kind.{Kind}
+use Rattle.tickets.specs.declared.Target.{Target}
 use Rattle.tickets.specs.declared.Kind.TheVariants.{Edit, Stale, View}
 use Rattle.tickets.specs.declared.Phase.{Phase}
 use Rattle.tickets.specs.declared.Phase.TheVariants.{NoTicket, Claiming, Putting, GivingBack, Viewing, Viewed}
@@ -71,41 +72,41 @@ module _ (slot : Slot.Ticket) (kind : Kind) (below : slot.done < slot.claimed) (
           never : (slot.done + 1 ≡ slot.claimed → ⊥) → slot.n ≤ slot.done + 1 → ⊥
           never differs l = omega (arith, differs, l, below, most)
 
-module _ (targets : List ℕ) (team : ℕ) (slot : Slot.Ticket) (well : well_made (gathered targets team slot) ≡ true) where
+module _ (targets : List Target) (slot : Slot.Ticket) (well : well_made (gathered targets slot) ≡ true) where
   -- It stands, since no ticket is well made in a slot that has none.
   pub made_stands : slot.done < slot.n
   made_stands = elim (dec_lt slot.done slot.n) [
     | yes stands ↦ stands
-    | no gone ↦ absurd (counts_in (gathered targets team slot) NoTicket (ap (λ t. t.phase) (gathered_gone targets team slot (omega (arith, gone)))) well)
+    | no gone ↦ absurd (counts_in (gathered targets slot) NoTicket (ap (λ t. t.phase) (gathered_gone targets slot (omega (arith, gone)))) well)
   ]
 
-  pub is_standing : gathered targets team slot ≡ standing targets team slot
-  is_standing = gathered_stands targets team slot made_stands
+  pub is_standing : gathered targets slot ≡ standing targets slot
+  is_standing = gathered_stands targets slot made_stands
 
-  pub standing_phase : (standing targets team slot).phase ≡ phase_of slot
+  pub standing_phase : (standing targets slot).phase ≡ phase_of slot
   standing_phase = sym (ap (λ b. cond b (phase_by slot.kind (claims_in slot)) NoTicket) (lt-ltb slot.done slot.n made_stands))
 
   -- So what is well made is what stands there.
-  pub well_standing : well_made (standing targets team slot) ≡ true
+  pub well_standing : well_made (standing targets slot) ≡ true
   well_standing = sym (ap well_made is_standing) ∙ well
 
-  pub made_standing : Made (standing targets team slot)
-  made_standing = made (standing targets team slot) well_standing
+  pub made_standing : Made (standing targets slot)
+  made_standing = made (standing targets slot) well_standing
 
   pub few_targets : slot.n ≤ most_targets
   few_targets = made_standing.most
 
   -- Each target is the one that stands at its place, and fits.
-  pub target_read : (k : ℕ) → k < slot.n → target_at (standing targets team slot) k ≡ target_standing targets team k
-  target_read k below = target_stands targets team k slot below (omega (arith, below, few_targets))
+  pub target_read : (k : ℕ) → k < slot.n → target_at (standing targets slot) k ≡ target_standing targets k
+  target_read k below = target_stands targets k slot below (omega (arith, below, few_targets))
 
-  pub target_fits_there : (k : ℕ) → k < slot.n → TargetFits (target_standing targets team k)
+  pub target_fits_there : (k : ℕ) → k < slot.n → TargetFits (target_standing targets k)
   target_fits_there k below = subst TargetFits (target_read k below) (made_standing.targets k below)
 
   -- What is asked where it is read.
-  pub target_asked : team < team_count → (k : ℕ) → k < slot.n → (team < team_count) × (k < target_room) × ((target_standing targets team k).word < words_in_book)
-  target_asked known k below = (known, omega (arith, below, few_targets), (target_fits_there k below).inside)
+  pub target_asked : (k : ℕ) → k < slot.n → (k < target_room) × ((target_standing targets k).word < words_in_book)
+  target_asked k below = (omega (arith, below, few_targets), (target_fits_there k below).inside)
 
   -- The counts are those of the phase.
   pub counts_there : (phase : Phase) → phase_of slot ≡ phase → CountsFit phase slot.n slot.claimed slot.done
-  counts_there phase is = counts_in (standing targets team slot) phase (standing_phase ∙ is) well_standing
+  counts_there phase is = counts_in (standing targets slot) phase (standing_phase ∙ is) well_standing

@@ -18,47 +18,47 @@ use Rattle.replies.specs.Leaving.{Answered, StepsFrom, LeftBy}
 use Rattle.replies.proofs.Standing.{is_standing, standing_phase, target_fits_there}
 
 -- By what the step comes to.
-pub left_as : (result step : Stepped × Words) (targets : List ℕ) (team : ℕ) (slot : Slot.Ticket) (out : Bytes) (at place : ℕ) (output : Bytes)
+pub left_as : (result step : Stepped × Words) (targets : List Target) (slot : Slot.Ticket) (out : Bytes) (at place : ℕ) (output : Bytes)
     → result ≡ step
-    → gathered targets team slot ≡ result.0.ticket
+    → gathered targets slot ≡ result.0.ticket
     → Answered out at result.0.answer place output
-    → LeftBy step targets team slot result.1 out at place output
-left_as result step targets team slot out at place output is left answered =
-    subst (λ s. LeftBy s targets team slot result.1 out at place output) is record { ticket_left = left; words_left = refl; answered = answered }
+    → LeftBy step targets slot result.1 out at place output
+left_as result step targets slot out at place output is left answered =
+    subst (λ s. LeftBy s targets slot result.1 out at place output) is record { ticket_left = left; words_left = refl; answered = answered }
 
-module _ (phase : Phase) (words : Words) (targets : List ℕ) (team : ℕ) (slot : Slot.Ticket) (out : Bytes) (at : ℕ) (known : StepsFrom phase words targets team slot out at) where
+module _ (phase : Phase) (words : Words) (targets : List Target) (team : ℕ) (slot : Slot.Ticket) (out : Bytes) (at : ℕ) (known : StepsFrom phase words targets team slot out at) where
   -- A step in a known phase is its swap, and what that found settles.
   pub step_made : (tried : SwapTried) (found : ℕ) (after : Words) (result : Stepped)
-      → tried ≡ swap_tried_in phase words (standing targets team slot) team
+      → tried ≡ swap_tried_in phase words (standing targets slot) team
       → found ≡ (swap_of words tried.word tried.expected tried.desired).found
       → after ≡ (swap_of words tried.word tried.expected tried.desired).words
-      → result ≡ settled_in phase (standing targets team slot) found
-      → ◌≡◌ {A = Stepped × Words} (result, after) (step_of words (gathered targets team slot) team)
+      → result ≡ settled_in phase (standing targets slot) found
+      → ◌≡◌ {A = Stepped × Words} (result, after) (step_of words (gathered targets slot) team)
   step_made tried found after result tries finds leaves settles =
       let made = known.steps_in.made in
-      let stands = standing targets team slot in
-      let is = standing_phase targets team slot made ∙ known.phase_known in
+      let stands = standing targets slot in
+      let is = standing_phase targets slot made ∙ known.phase_known in
       step_by_lem words stands team tried found after result
       (tries ∙ sym (tried_in words stands team phase is))
       finds
       leaves
       (settles ∙ sym (settled_in_lem stands found phase is))
-      ∙ ap (λ (t : Ticket). step_of words t team) (sym (is_standing targets team slot made))
+      ∙ ap (λ (t : Ticket). step_of words t team) (sym (is_standing targets slot made))
 
   -- What the step leaves, from there.
-  pub step_left : (tried : SwapTried) (found : ℕ) (after : Words) (result : Stepped) (numbers : List ℕ) (left : Slot.Ticket) (place : ℕ) (output : Bytes)
-      → tried ≡ swap_tried_in phase words (standing targets team slot) team
+  pub step_left : (tried : SwapTried) (found : ℕ) (after : Words) (result : Stepped) (numbers : List Target) (left : Slot.Ticket) (place : ℕ) (output : Bytes)
+      → tried ≡ swap_tried_in phase words (standing targets slot) team
       → found ≡ (swap_of words tried.word tried.expected tried.desired).found
       → after ≡ (swap_of words tried.word tried.expected tried.desired).words
-      → result ≡ settled_in phase (standing targets team slot) found
-      → gathered numbers team left ≡ result.ticket
+      → result ≡ settled_in phase (standing targets slot) found
+      → gathered numbers left ≡ result.ticket
       → Answered out at result.answer place output
-      → LeftBy (step_of words (gathered targets team slot) team) numbers team left after out at place output
+      → LeftBy (step_of words (gathered targets slot) team) numbers left after out at place output
   step_left tried found after result numbers left place output tries finds leaves settles ticket answer =
-      left_as (result, after) (step_of words (gathered targets team slot) team) numbers team left out at place output (step_made tried found after result tries finds leaves settles) ticket answer
+      left_as (result, after) (step_of words (gathered targets slot) team) numbers left out at place output (step_made tried found after result tries finds leaves settles) ticket answer
 
   -- The target of a step is in the book.
-  pub target_inside : (k : ℕ) → k < slot.n → (target : Target) → target ≡ target_standing targets team k → target.word < length words
+  pub target_inside : (k : ℕ) → k < slot.n → (target : Target) → target ≡ target_standing targets k → target.word < length words
   target_inside k below target is =
-      let inside = (target_fits_there targets team slot known.steps_in.made k below).inside in
+      let inside = (target_fits_there targets slot known.steps_in.made k below).inside in
       omega (arith, ap (λ (one : Target). one.word) is, inside, known.steps_in.book)

@@ -19,24 +19,20 @@ pub struct Left {
 }
 
 // Target k of a slot, whose word is in the book.
-pub fn target_at(targets: &[u64; Tickets::NUMBERS], slot: usize, k: u16) -> Target
-    requires { (slot < team_count) × (k < target_room) × ((target_standing targets.now slot k).word < words_in_book) }
-    ensures { result ≡ target_standing targets.now slot k }
+pub fn target_at(targets: &[Target; Tickets::ROOM], k: u16) -> Target
+    requires { (k < target_room) × ((target_standing targets.now k).word < words_in_book) }
+    ensures target { result ≡ target_standing targets.now k }
+    ensures inside { result.word < words_in_book }
 {
-    let at = Tickets::place(slot, k);
-    Target {
-        word: targets[at] as u16,
-        quoted: targets[at + 1],
-        new: targets[at + 2],
-    }
+    targets[k as usize]
 }
 
 // A word that a team holds released: its mark is exchanged for a value.
-pub fn release(book: &mut [u64], slot: usize, word: u16, value: u64)
-    requires { (slot < team_count) × (word < length book.old) }
-    ensures { book.new ≡ (swap_of book.old word (mark_of slot) value).words }
+pub fn release(book: &mut [u64], team: usize, word: u64, value: u64)
+    requires { (team < team_count) × (word < length book.old) }
+    ensures { book.new ≡ (swap_of book.old word (mark_of team) value).words }
 {
-    words::conditional_swap(book, word as usize, words::mark(slot as u16), value);
+    words::conditional_swap(book, word as usize, words::mark(team as u16), value);
 }
 
 // Puts an answer at a place of the output, and returns the place after it. Its caller knows which answer: inlined there, no

@@ -97,11 +97,6 @@ module _ (words : Words) (tickets : Tickets) (ranks : Ranks) (buffer : Bytes) (h
       ∙ ap (λ (on : Bool). cond on onward halted) (sym ends)
       ∙ ap (served_after buffer have) same
 
-  pub serves_refused :
-      {place : ℕ} {output : Bytes} → PutAt filled answered.written (answer_frame (Refused 3)) place output → goes_on answered.stop ≡ false
-      → ended_by after answered.tickets buffer (place, output) ≡ served_after buffer have (stream_of words tickets ranks (take have buffer) out)
-  serves_refused put ends = serves_no_more (refused_put filled answered.written put) ends
-
   pub serves_on :
       (left : ℕ) (front : Bytes) → left ≡ have - answered.consumed → front ≡ shifted buffer answered.consumed have
       → goes_on answered.stop ≡ true
@@ -125,9 +120,6 @@ module _ (words : Words) (tickets : Tickets) (ranks : Ranks) (buffer : Bytes) (h
     -- There is room for Refused 3,
     pub room_to_refuse : RoomAt filled answered.written
     room_to_refuse = record { inside = omega (arith, kept.1); room = kept.1 }
-
-    pub refused_inside : {place : ℕ} {output : Bytes} → PutAt filled answered.written (answer_frame (Refused 3)) place output → place ≤ length out
-    refused_inside put = omega (arith, put.0.1, kept.0)
 
     -- and less than a whole frame is kept where it goes on.
     pub few_kept : goes_on answered.stop ≡ true → have - answered.consumed < longest_frame

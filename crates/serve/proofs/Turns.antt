@@ -23,7 +23,7 @@ use Rattle.calls.specs.Pieces.{goes_on, Between, turn_of, after_turn, pieces_fro
 use Rattle.calls.proofs.StreamRun.{stream_is_run}
 use Rattle.calls.proofs.StreamPieces.{left_length}
 use Rattle.calls.proofs.SurveyPieces.{pieces_are_survey}
-use Rattle.serve.specs.Serving.{Served, shifted, served, refused_behind, end_of, ended_by, served_after, served_by, wrote_by, Memory, starting, Read, ReadInto, EveryReadIsInto, turn_by, memory_after, written_in_turns, ReadsRight, TurnsAreSurvey, read_into, reads_of, ReadsFit}
+use Rattle.serve.specs.Serving.{Served, shifted, served, refused_behind, end_of, ended_by, served_after, served_by, wrote_by, Server, starting, Read, ReadInto, EveryReadIsInto, turn_by, memory_after, written_in_turns, ReadsRight, TurnsAreSurvey, read_into, reads_of, ReadsFit}
 use Rattle.serve.proofs.Serving.{serves_read, serves_no_more, serves_on, few_kept}
 
 -- Bytes put behind the first ones of an output come behind them.
@@ -37,7 +37,7 @@ put_front out bytes at inside =
     ∙ take_at (take at out ++ bytes) (rest ++ over) (at + length bytes) (omega (arith, length-append (take at out) bytes, length-take-le at out inside))
 
 -- A read that leaves every other byte: what was kept and what came stand at the front of a buffer as long as before.
-read_into_lem : (before : Memory) (piece : Bytes) → 0 < length piece → before.have + length piece ≤ length before.buffer → ReadInto before (read_into before piece)
+read_into_lem : (before : Server) (piece : Bytes) → 0 < length piece → before.have + length piece ≤ length before.buffer → ReadInto before (read_into before piece)
 read_into_lem before piece some fits =
     let kept = take before.have before.buffer in
     let later = drop (before.have + length piece) before.buffer in
@@ -92,12 +92,12 @@ at_end_lem out (byte ∷ bytes) (suc n) inside =
     ap (λ (some : Bool). let end = cond some (refused_behind out 0) (0, out) in take end.0 end.1) (lt-ltb 0 (suc n) (omega arith))
     ∙ put_front out (answer_frame (Refused 3)) 0 (omega arith)
 
--- The program's memory, as a turn of the pieces knows it.
-abbrev known : Memory → Between
+-- The program's server, as a turn of the pieces knows it.
+abbrev known : Server → Between
 known before = record { book = before.words; tickets = before.tickets; ranks = before.ranks; kept = take before.have before.buffer; out = before.out }
 
 -- What is so before each turn.
-record Ready (before : Memory) : Type 0 where
+record Ready (before : Server) : Type 0 where
   ranked : Accepted before.ranks
   whole : length before.words ≡ words_in_book
   inside : before.have ≤ length before.buffer
@@ -107,12 +107,12 @@ record Ready (before : Memory) : Type 0 where
 abbrev brought : List Read → List Bytes
 brought reads = map (λ read. read.came) reads
 
-record Same (before : Memory) (reads : List Read) (last : Bytes) : Type 0 where
+record Same (before : Server) (reads : List Read) (last : Bytes) : Type 0 where
   bytes : written_in_turns before reads last ≡ pieces_from (known before) (brought reads)
   room : RoomEachTurn (known before) (brought reads)
 
 -- One turn: it stops, or the next one is ready.
-module _ (before : Memory) (read : Read) (ready : Ready before) (into : ReadInto before read) where
+module _ (before : Server) (read : Read) (ready : Ready before) (into : ReadInto before read) where
   abbrev piece : Bytes
   piece = read.came
 
@@ -138,7 +138,7 @@ module _ (before : Memory) (read : Read) (ready : Ready before) (into : ReadInto
   consumed_less =
       omega (arith, right.consumed, ap length right.parts, length-append (joined right.frames) (drop turn.0.consumed (take before.have before.buffer ++ piece)), ap length into.front, length-take-le have buffer inside)
 
-  abbrev next : Memory
+  abbrev next : Server
   next = record { words = turn.1; tickets = turn.0.tickets; ranks = before.ranks; buffer = shifted buffer turn.0.consumed have; have = have - turn.0.consumed; out = turn.2 }
 
   next_length : length next.buffer ≡ length before.buffer
@@ -186,7 +186,7 @@ either : (on : Bool) (goal : Type 0) → (on ≡ true → goal) → (on ≡ fals
 either true goal going stopping = going refl
 either false goal going stopping = stopping refl
 
-same_turns : (reads : List Read) (last : Bytes) (before : Memory) → Ready before → ReadsRight before reads → Same before reads last
+same_turns : (reads : List Read) (last : Bytes) (before : Server) → Ready before → ReadsRight before reads → Same before reads last
 unfolding served_by written_in_turns ReadsRight pieces_from RoomEachTurn
 same_turns [] last before ready right = record { bytes = at_end_lem before.out before.buffer before.have ready.inside; room = tt }
 same_turns (read ∷ later) last before ready right =
@@ -222,7 +222,7 @@ turns_are_survey ranks accepted buffer out last reads roomy right =
     same.bytes ∙ pieces_are_survey ranks accepted out (brought reads) same.room
 
 -- Less than a frame of the longest kind is kept, so that a read with that much to spare fits.
-right_each : (pieces : List Bytes) (before : Memory) (room : ℕ) → Ready before → before.have < longest_frame → length before.buffer ≡ room
+right_each : (pieces : List Bytes) (before : Server) (room : ℕ) → Ready before → before.have < longest_frame → length before.buffer ≡ room
     → Every (λ piece. (0 < length piece) × (longest_frame + length piece ≤ room)) pieces → ReadsRight before (reads_of before pieces)
 unfolding ReadsRight reads_of
 right_each [] before room ready few long spare = tt

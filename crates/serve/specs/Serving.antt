@@ -13,7 +13,9 @@ use Rattle.calls.specs.Run.{fresh}
 use Rattle.calls.specs.Survey.{joined, survey_under}
 use Rattle.calls.specs.Stream.{Streamed, stream_of, Roomy}
 use Rattle.calls.specs.Pieces.{goes_on}
-use Rattle.serve.specs.declared.Served as Code
+use Rattle.std.specs.declared.ops.ControlFlow.{ControlFlow}
+use Rattle.std.specs.declared.ops.ControlFlow.TheVariants.{Continue, Break}
+use Rattle.serve.specs.declared.Server as Code
 
 -- The bytes from a place up to another moved to the front, over what stood there.
 abbrev pub shifted : Bytes → ℕ → ℕ → Bytes
@@ -25,12 +27,20 @@ pub record Served : Type 0 where
   pub have : Option ℕ
   pub written : ℕ
 
--- What the code's says.
-abbrev pub served_of : Code.Served → Served
-served_of result = record { tickets = table_of result.tickets; have = result.have; written = result.written }
-
 abbrev pub served : Tickets → Option ℕ → ℕ → Served
 served tickets have written = record { tickets = tickets; have = have; written = written }
+
+-- What the code's says: what it keeps, and how many bytes to write, if it goes on or not.
+abbrev pub served_of : Code.Server → ControlFlow ℕ ℕ → Served
+served_of server (Continue written) = served (table_of server.tickets) (Some server.input.have) written
+served_of server (Break written) = served (table_of server.tickets) None written
+
+-- The code's server still holds the references that it was made with, to as many bytes.
+abbrev pub SameLoans : Code.Server → Code.Server → Type 0
+SameLoans before after =
+    (after.book.ghost_name ≡ before.book.ghost_name) × (after.ranks ≡ before.ranks)
+    × (after.input.buffer.ghost_name ≡ before.input.buffer.ghost_name) × (length after.input.buffer.now ≡ length before.input.buffer.now)
+    × (after.out.ghost_name ≡ before.out.ghost_name) × (length after.out.now ≡ length before.out.now)
 
 -- Refused 3 put behind so many bytes of an output: how many there are with it, and the output.
 abbrev pub refused_behind : Bytes → ℕ → ℕ × Bytes
@@ -64,8 +74,8 @@ served_by words tickets ranks buffer have got out =
 abbrev pub wrote_by : Served × Words × Bytes × Bytes → Bytes
 wrote_by turn = take turn.0.written turn.3
 
--- The program's memory before a turn.
-pub record Memory : Type 0 where
+-- The program's server before a turn.
+pub record Server : Type 0 where
   pub words : Words
   pub tickets : Tickets
   pub ranks : Ranks
@@ -74,7 +84,7 @@ pub record Memory : Type 0 where
   pub out : Bytes
 
 -- At first a fresh book under some ranks, and no byte in the buffer.
-abbrev pub starting : Ranks → Bytes → Bytes → Memory
+abbrev pub starting : Ranks → Bytes → Bytes → Server
 starting ranks buffer out = record { words = (fresh []).book; tickets = (fresh []).tickets; ranks = ranks; buffer = buffer; have = 0; out = out }
 
 -- A read: the bytes that came, and the buffer after it.
@@ -83,7 +93,7 @@ pub record Read : Type 0 where
   pub buffer : Bytes
 
 -- Something came, and it stands behind what was kept; the buffer keeps its length, and what its later bytes are is free.
-pub record ReadInto (before : Memory) (read : Read) : Type 0 where
+pub record ReadInto (before : Server) (read : Read) : Type 0 where
   pub some : 0 < length read.came
   pub fits : before.have + length read.came ≤ length before.buffer
   pub front : take (before.have + length read.came) read.buffer ≡ take before.have before.buffer ++ read.came
@@ -92,28 +102,28 @@ pub record ReadInto (before : Memory) (read : Read) : Type 0 where
 -- Statement: no read gives less. Whatever buffer is left, as long as before and with the bytes that were kept, what came is what stands behind these.
 abbrev pub EveryReadIsInto : Type 0
 EveryReadIsInto =
-    (before : Memory) (buffer : Bytes) (got : ℕ)
+    (before : Server) (buffer : Bytes) (got : ℕ)
     → 0 < got → before.have + got ≤ length before.buffer
     → take before.have buffer ≡ take before.have before.buffer → length buffer ≡ length before.buffer
     → ReadInto before (record { came = take got (drop before.have buffer); buffer = buffer })
 
 -- A turn: one read, and what is done after it.
-abbrev pub turn_by : Memory → Read → Served × Words × Bytes × Bytes
+abbrev pub turn_by : Server → Read → Served × Words × Bytes × Bytes
 turn_by before read = served_by before.words before.tickets before.ranks read.buffer before.have (length read.came) before.out
 
 -- What it leaves to the next turn, no byte where it is the last; no turn writes the ranks.
-abbrev pub memory_after : Ranks → Served × Words × Bytes × Bytes → Memory
+abbrev pub memory_after : Ranks → Served × Words × Bytes × Bytes → Server
 memory_after ranks (result, words, buffer, out) = record { words = words; tickets = result.tickets; ranks = ranks; buffer = buffer; have = unwrap_or result.have 0; out = out }
 
 -- What it writes for reads, one after another, and a last one that brings nothing, until a turn says that it does not go on.
-unfoldable pub written_in_turns : Memory → List Read → Bytes → Bytes
+unfoldable pub written_in_turns : Server → List Read → Bytes → Bytes
 written_in_turns before [] last = wrote_by (turn_by before (record { came = []; buffer = last }))
 written_in_turns before (read ∷ later) last =
     let turn = turn_by before read in
     wrote_by turn ++ cond (is_some turn.0.have) (written_in_turns (memory_after before.ranks turn) later last) []
 
 -- Each read that is made brings something behind what is kept.
-unfoldable pub ReadsRight : Memory → List Read → Type 0
+unfoldable pub ReadsRight : Server → List Read → Type 0
 ReadsRight before [] = Unit {0}
 ReadsRight before (read ∷ later) =
     let turn = turn_by before read in
@@ -127,12 +137,12 @@ TurnsAreSurvey =
     → written_in_turns (starting ranks buffer out) reads last ≡ survey_under ranks (joined (map (λ read. read.came) reads))
 
 -- Reads that bring these pieces, one after another, and leave every other byte of the buffer.
-abbrev pub read_into : Memory → Bytes → Read
+abbrev pub read_into : Server → Bytes → Read
 read_into before piece =
     let later = drop (before.have + length piece) before.buffer in
     record { came = piece; buffer = take before.have before.buffer ++ (piece ++ later) }
 
-unfoldable pub reads_of : Memory → List Bytes → List Read
+unfoldable pub reads_of : Server → List Bytes → List Read
 reads_of before [] = []
 reads_of before (piece ∷ later) = read_into before piece ∷ reads_of (memory_after before.ranks (turn_by before (read_into before piece))) later
 

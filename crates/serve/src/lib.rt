@@ -2,130 +2,120 @@
 #![tactic(auto)]
 
 ghost use Rattle.std.specs.Prelude.{◌≡◌, ◌+◌, ◌-◌, ◌<◌, ◌≤◌, length, take, IfSome};
-ghost use Rattle.words.specs.Words.{words_in_book};
 ghost use Rattle.tickets.specs.Table.{table_of};
 ghost use Rattle.frames.specs.Answers.{longest_answer};
 ghost use Rattle.frames.specs.Fields.{longest_frame};
 ghost use Rattle.calls.specs.Stream.{stream_of, streamed_of, Roomy};
 ghost use Rattle.calls.specs.Pieces.{goes_on};
-ghost use Rattle.serve.specs.Serving.{shifted, end_of, served_of, served_after, served_by};
 
 use calls::{Stop, Streamed};
 use frames::Refusal;
 use handlers::put_refused;
+use std::ops::ControlFlow;
 use tickets::Tickets;
+use words::Limits;
 
-// What came of one read: the tickets, how many bytes of a frame not yet whole stand at the front, if the program goes on,
-// and how many bytes to write.
-#[derive(Clone, Copy)]
-pub struct Served {
-    pub tickets: Tickets,
-    pub have: Option<usize>,
-    pub written: usize,
+// A buffer with room for every frame, and how many bytes at its front have come and are kept.
+#[derive(Drop)]
+pub struct Input<'a> {
+    pub buffer: &'a mut [u8],
+    pub have: usize,
+    pub ghost inside: { have ≤ length buffer.now },
+    pub ghost holds_a_frame: { longest_frame ≤ length buffer.now },
 }
 
-// What is written at the end of the input, where `have` bytes are kept: Refused 3 for a torn last frame.
-fn at_end(out: &mut [u8], have: usize) -> usize
-    requires { longest_answer ≤ length out.old }
-    ensures { ((result, out.new) ≡ end_of out.old have) × (result ≤ length out.old) }
-{
-    if 0 < have {
-        return put_refused(out, 0, Refusal::Torn);
+impl Input<'_> {
+    ghost use Rattle.serve.specs.Serving.{shifted};
+
+    // The stream of the bytes that are kept.
+    fn stream(&self, book: &mut [u64], tickets: Tickets, ranks: &[u16], out: &mut [u8]) -> Streamed
+        ensures bounds { (result.consumed ≤ self.now.have) × (result.written ≤ length out.old) }
+        ensures all { (streamed_of result, book.new, out.new) ≡ stream_of book.old (table_of tickets) ranks.now (take self.now.have self.now.buffer.now) out.old }
+    {
+        book::stream(book, tickets, ranks, &self.buffer[..self.have], out)
     }
-    0
+
+    // Lets the first bytes go, and moves those behind them to the front.
+    fn consume(&mut self, count: usize)
+        requires { count ≤ self.old.have }
+        ensures left { (self.new.have ≡ self.old.have - count) × (self.new.buffer.now ≡ shifted self.old.buffer.now count self.old.have) }
+        ensures same_buffer { (self.new.buffer.ghost_name ≡ self.old.buffer.ghost_name) × (length self.new.buffer.now ≡ length self.old.buffer.now) }
+    {
+        self.buffer.copy_within(count..self.have, 0);
+        self.have -= count;
+    }
 }
 
-// Moves the bytes from `from` up to `have` to the front; how many.
-fn shift(buffer: &mut [u8], from: usize, have: usize) -> usize
-    requires { (from ≤ have) × (have ≤ length buffer.old) }
-    ensures { (result ≡ have - from) × (buffer.new ≡ shifted buffer.old from have) }
-{
-    buffer.copy_within(from..have, 0);
-    have - from
-}
-
-fn stream_front(
-    book: &mut [u64],
-    tickets: Tickets,
-    ranks: &[u16],
-    buffer: &[u8],
-    have: usize,
-    out: &mut [u8],
-) -> Streamed
-    requires { have ≤ length buffer.now }
-    ensures bounds { (result.consumed ≤ have) × (result.written ≤ length out.old) }
-    ensures all { (streamed_of result, book.new, out.new) ≡ stream_of book.old (table_of tickets) ranks.now (take have buffer.now) out.old }
-{
-    book::stream(book, tickets, ranks, &buffer[0..have], out)
+// What is kept from turn to turn, lent: the book, the tickets, the ranks in force, what came and is not answered yet, and an
+// output with room for every answer.
+#[derive(Drop)]
+pub struct Server<'a, 'b> {
+    pub book: &'a mut [u64; Limits::WORDS],
+    pub tickets: Tickets,
+    pub ranks: &'a [u16],
+    pub input: Input<'b>,
+    pub out: &'a mut [u8],
+    pub ghost roomy: { Roomy input.buffer.now out.now },
 }
 
 fn goes_on(stop: Stop) -> bool
     ensures { result ≡ goes_on stop }
 {
-    match stop {
-        Stop::MoreInput => true,
-        Stop::OutputFull => true,
-        Stop::BadLength => false,
-        Stop::NoBook => false,
-        Stop::NoRanks => false,
-    }
+    matches!(stop, Stop::MoreInput | Stop::OutputFull)
 }
 
-// All whole frames among the first `have` bytes answered, and what is left of them moved to the front; or Refused 3 behind
-// the answers.
-fn serve_front(
-    book: &mut [u64],
-    tickets: Tickets,
-    ranks: &[u16],
-    buffer: &mut [u8],
-    have: usize,
-    out: &mut [u8],
-) -> Served
-    requires { (have ≤ length buffer.old) × (length book.old ≡ words_in_book) × Roomy buffer.old out.old }
-    ensures bounds { IfSome result.have (λ kept. kept < longest_frame) × (result.written ≤ length out.old) }
-    ensures all { (served_of result, book.new, buffer.new, out.new) ≡ served_after buffer.old have (stream_of book.old (table_of tickets) ranks.now (take have buffer.old) out.old) }
-{
-    let answered = stream_front(book, tickets, ranks, buffer, have, out);
-    let next = answered.tickets;
-    let stop = answered.stop;
-    if !goes_on(stop) {
-        let refused = put_refused(out, answered.written, Refusal::Torn);
-        return Served {
-            tickets: next,
-            have: None,
-            written: refused,
-        };
-    }
-    let left = shift(buffer, answered.consumed, have);
-    Served {
-        tickets: next,
-        have: Some(left),
-        written: answered.written,
-    }
-}
+impl Server<'_, '_> {
+    ghost use Rattle.serve.specs.Serving.{end_of, served_of, served_after, served_by, SameLoans};
 
-// All that is done after a read of `got` bytes behind the first `have`, none at the end of the input. What is to be written
-// then stands at the front of the output.
-pub fn after_read(
-    book: &mut [u64],
-    tickets: Tickets,
-    ranks: &[u16],
-    buffer: &mut [u8],
-    have: usize,
-    got: usize,
-    out: &mut [u8],
-) -> Served
-    requires { (have + got ≤ length buffer.old) × (longest_frame ≤ length buffer.old) × (length book.old ≡ words_in_book) × Roomy buffer.old out.old }
-    ensures bounds { IfSome result.have (λ kept. kept < longest_frame) × (result.written ≤ length out.old) }
-    ensures all { (served_of result, book.new, buffer.new, out.new) ≡ served_by book.old (table_of tickets) ranks.now buffer.old have got out.old }
-{
-    if got == 0 {
-        let count = at_end(out, have);
-        return Served {
-            tickets: tickets,
-            have: None,
-            written: count,
-        };
+    // What is written at the end of the input, where `have` bytes are kept: Refused 3 for a torn last frame.
+    fn at_end(out: &mut [u8], have: usize) -> usize
+        requires { longest_answer ≤ length out.old }
+        ensures { ((result, out.new) ≡ end_of out.old have) × (result ≤ length out.old) }
+    {
+        if 0 < have {
+            return put_refused(out, 0, Refusal::Torn);
+        }
+        0
     }
-    serve_front(book, tickets, ranks, buffer, have + got, out)
+
+    // All whole frames among the bytes that are kept answered, and what is left of them moved to the front; or Refused 3 behind
+    // the answers.
+    fn serve_front(&mut self) -> ControlFlow<usize, usize>
+        ensures bounds { IfSome (served_of self.new result).have (λ kept. kept < longest_frame) × ((served_of self.new result).written ≤ length self.old.out.now) }
+        ensures all { (served_of self.new result, self.new.book.now, self.new.input.buffer.now, self.new.out.now) ≡ served_after self.old.input.buffer.now self.old.input.have (stream_of self.old.book.now (table_of self.old.tickets) self.old.ranks.now (take self.old.input.have self.old.input.buffer.now) self.old.out.now) }
+        ensures same_loans { SameLoans self.old self.new }
+    {
+        // Each part is lent under a name of its own: beside the loans of others a field's loan is not covered.
+        let tickets = self.tickets;
+        let ranks = self.ranks;
+        let book = &mut *self.book;
+        let out = &mut *self.out;
+        let input = &mut self.input;
+        let answered = input.stream(book, tickets, ranks, out);
+        self.tickets = answered.tickets;
+        if !goes_on(answered.stop) {
+            let refused = put_refused(self.out, answered.written, Refusal::Torn);
+            return ControlFlow::Break(refused);
+        }
+        self.input.consume(answered.consumed);
+        ControlFlow::Continue(answered.written)
+    }
+
+    // All that is done after a read of `got` bytes behind those kept, none at the end of the input: how many bytes to write from
+    // the front of the output, and if the program goes on.
+    // No plainer as an `Option`: `Read` itself tells the end by 0, and `served_by` takes the number.
+    pub fn after_read(&mut self, got: usize) -> ControlFlow<usize, usize>
+        requires { self.old.input.have + got ≤ length self.old.input.buffer.now }
+        ensures bounds { IfSome (served_of self.new result).have (λ kept. kept < longest_frame) × ((served_of self.new result).written ≤ length self.old.out.now) }
+        ensures all { (served_of self.new result, self.new.book.now, self.new.input.buffer.now, self.new.out.now) ≡ served_by self.old.book.now (table_of self.old.tickets) self.old.ranks.now self.old.input.buffer.now self.old.input.have got self.old.out.now }
+        ensures same_loans { SameLoans self.old self.new }
+    {
+        if got == 0 {
+            let have = self.input.have;
+            let count = Server::at_end(self.out, have);
+            return ControlFlow::Break(count);
+        }
+        self.input.have += got;
+        self.serve_front()
+    }
 }

@@ -3,32 +3,31 @@
 
 ghost use Rattle.std.specs.Prelude.{◌≡◌, ◌<◌, length};
 ghost use Rattle.tickets.specs.Steps.{step_of, look_of};
-ghost use Rattle.tickets.specs.Table.{gathered, ElsewhereSame};
+ghost use Rattle.tickets.specs.Table.{gathered};
 ghost use Rattle.replies.specs.Leaving.{StepsIn, LeftBy};
 
 use replies::Left;
-use tickets::{Phase, Ticket, Tickets};
+use tickets::{Phase, Target, Ticket, Tickets};
 
 // A step of a team whose ticket is well made, by its phase: one swap. A match, since what each may write is told by its own contract; a
 // table of closures would hide it.
 pub fn step(
     book: &mut [u64],
-    targets: &mut [u64; Tickets::NUMBERS],
+    targets: &mut [Target; Tickets::ROOM],
     ticket: Ticket,
-    slot: usize,
+    team: usize,
     out: &mut [u8],
     at: usize,
 ) -> Left
-    requires { StepsIn book.old targets.old slot ticket out.old at }
-    ensures left { LeftBy (step_of book.old (gathered targets.old slot ticket) slot) targets.new slot result.ticket book.new out.old at result.filled out.new }
-    ensures others { ElsewhereSame targets.old targets.new slot }
+    requires { StepsIn book.old targets.old team ticket out.old at }
+    ensures { LeftBy (step_of book.old (gathered targets.old ticket) team) targets.new result.ticket book.new out.old at result.filled out.new }
 {
     match ticket.phase() {
-        Phase::Claiming => claiming::claim(book, targets, ticket, slot, out, at),
-        Phase::Putting => releasing::put(book, targets, ticket, slot, out, at),
-        Phase::GivingBack => releasing::give_back(book, targets, ticket, slot, out, at),
-        Phase::Viewing => views::view_claim(book, targets, ticket, slot, out, at),
-        Phase::Viewed => views::view_give_back(book, targets, ticket, slot, out, at),
+        Phase::Claiming => claiming::claim(book, targets, ticket, team, out, at),
+        Phase::Putting => releasing::put(book, targets, ticket, team, out, at),
+        Phase::GivingBack => releasing::give_back(book, targets, ticket, team, out, at),
+        Phase::Viewing => views::view_claim(book, targets, ticket, team, out, at),
+        Phase::Viewed => views::view_give_back(book, targets, ticket, team, out, at),
         Phase::NoTicket => unreachable!(),
     }
 }

@@ -1,14 +1,13 @@
 // The program: frames from standard input, answers to standard output.
 #![tactic(auto)]
 
-ghost use Rattle.std.specs.Prelude.{◌≡◌, ◌+◌, ◌<◌, ◌≤◌, length, take, IfSome};
-ghost use Rattle.words.specs.Words.{words_in_book};
+ghost use Rattle.std.specs.Prelude.{◌≡◌, ◌+◌, ◌<◌, ◌≤◌, length, take};
 ghost use Rattle.frames.specs.Fields.{longest_frame};
-ghost use Rattle.calls.specs.Stream.{Roomy};
 
 use frames::Answer;
-use serve::Served;
+use serve::{Input, Server};
 use std::io::{Print, Read, Stdin, Stdout};
+use std::ops::ControlFlow;
 use tickets::Tickets;
 use words::Limits;
 
@@ -29,59 +28,33 @@ impl Buffers {
 fn write_front(stdout: Stdout, out: &[u8], count: usize)
     requires { count ≤ length out.now }
 {
-    let _ = stdout.write_all(&out[0..count]);
+    let _ = stdout.write_all(&out[..count]);
 }
 
-// Reads what there is behind the first `have` bytes, which stay; how many came. There is room for one at least, so that
+// Reads what there is behind the bytes that are kept, which stay; how many came. There is room for one at least, so that
 // 0 is the end of the input or a read that failed.
-fn read_more(mut stdin: Stdin, buffer: &mut [u8], have: usize) -> usize
-    requires { have < length buffer.old }
-    ensures { (have + result ≤ length buffer.old) × (take have buffer.new ≡ take have buffer.old) }
+// No plainer as an `Option`: `Read` itself tells the end by 0, and `after_read` takes the number.
+fn read_more(mut stdin: Stdin, input: &mut Input) -> usize
+    requires { input.old.have < longest_frame }
+    ensures room { input.new.have + result ≤ length input.new.buffer.now }
+    ensures kept { (input.new.have ≡ input.old.have) × (take input.old.have input.new.buffer.now ≡ take input.old.have input.old.buffer.now) }
+    ensures same_length { length input.new.buffer.now ≡ length input.old.buffer.now }
 {
-    stdin.read(&mut buffer[have..]).unwrap_or(0)
+    stdin.read(&mut input.buffer[input.have..]).unwrap_or(0)
 }
 
-// One read, all that is done after it, one write. The book, the ranks and both buffers are lent each by itself, as `serve` takes
-// them: no heap, and the stream's contract is of each.
-fn serve_some(
-    stdin: Stdin,
-    stdout: Stdout,
-    book: &mut [u64],
-    tickets: Tickets,
-    ranks: &[u16],
-    buffer: &mut [u8],
-    have: usize,
-    out: &mut [u8],
-) -> Served
-    requires { (have < longest_frame) × (longest_frame ≤ length buffer.old) × (length book.old ≡ words_in_book) × Roomy buffer.old out.old }
-    ensures { IfSome result.have (λ kept. kept < longest_frame) }
+// Turn after turn, to the end of the input or a length field above 62: one read, all that is done after it, one write.
+fn serve_all(stdin: Stdin, stdout: Stdout, server: &mut Server)
+    requires { server.old.input.have < longest_frame }
 {
-    let got = read_more(stdin, buffer, have);
-    let served = serve::after_read(book, tickets, ranks, buffer, have, got, out);
-    write_front(stdout, out, served.written);
-    served
-}
-
-// Turn after turn, to the end of the input or a length field above 62.
-fn serve_all(
-    stdin: Stdin,
-    stdout: Stdout,
-    book: &mut [u64],
-    ranks: &[u16],
-    buffer: &mut [u8],
-    out: &mut [u8],
-)
-    requires { (longest_frame ≤ length buffer.old) × (length book.old ≡ words_in_book) × Roomy buffer.old out.old }
-{
-    let mut tickets = Tickets::fresh();
-    let mut have: usize = 0;
+    // A loop with no measure needs the handle `Wait`, and none is allowed: a read to the end is a count that no run uses up.
     for _ in 0..u64::MAX {
-        let served = serve_some(stdin, stdout, book, tickets, ranks, buffer, have, out);
-        let Some(kept) = served.have else {
-            return;
-        };
-        tickets = served.tickets;
-        have = kept;
+        let input = &mut server.input;
+        let got = read_more(stdin, input);
+        match server.after_read(got) {
+            ControlFlow::Continue(written) => write_front(stdout, server.out, written),
+            ControlFlow::Break(written) => return write_front(stdout, server.out, written),
+        }
     }
 }
 
@@ -90,12 +63,16 @@ fn main(rt: HostRuntime) {
     let mut buffer = [0u8; Buffers::INPUT];
     let mut out = [0u8; Buffers::OUTPUT];
     let ranks = legs::fixed_ranks();
-    serve_all(
-        rt.stdin(),
-        rt.stdout(),
-        &mut book,
-        &ranks,
-        &mut buffer,
-        &mut out,
-    );
+    let input = Input {
+        buffer: &mut buffer,
+        have: 0,
+    };
+    let mut server = Server {
+        book: &mut book,
+        tickets: Tickets::fresh(),
+        ranks: &ranks,
+        input,
+        out: &mut out,
+    };
+    serve_all(rt.stdin(), rt.stdout(), &mut server);
 }

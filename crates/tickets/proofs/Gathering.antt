@@ -7,6 +7,7 @@ use native.Mathlib.Omega.{arith}
 use native.Mathlib.Decide.{ℕ_discrete}
 use borrow.Author.Tests.{eq-eqb, ne_eqb, lt-ltb, le-ltb}
 use lib.Dec.{eqb, ltb}
+use Rattle.tickets.specs.declared.Target.{Target}
 use Rattle.tickets.specs.declared.Phase.{Phase}
 use Rattle.tickets.specs.declared.Phase.TheVariants.{Claiming, Putting, GivingBack}
 use Rattle.tickets.specs.declared.Kind.{Kind}
@@ -18,13 +19,13 @@ use Rattle.tickets.specs.Steps.{one_more_try, advanced, stepped, claimed, put, g
 use Rattle.tickets.specs.Table.{stands_in, claims_in, phase_by, done_with_one, tried_slot, standing, gathered, FinishedSlotsAreFree}
 
 -- A slot whose targets are not all done says a standing ticket, and any other none.
-pub gathered_stands : (targets : List ℕ) (team : ℕ) (slot : Slot.Ticket) → slot.done < slot.n → gathered targets team slot ≡ standing targets team slot
+pub gathered_stands : (targets : List Target) (slot : Slot.Ticket) → slot.done < slot.n → gathered targets slot ≡ standing targets slot
 unfolding gathered
-gathered_stands targets team slot below = ap (λ b. cond b (standing targets team slot) no_ticket) (lt-ltb slot.done slot.n below)
+gathered_stands targets slot below = ap (λ b. cond b (standing targets slot) no_ticket) (lt-ltb slot.done slot.n below)
 
 pub gathered_gone : FinishedSlotsAreFree
 unfolding gathered
-gathered_gone targets team slot over = ap (λ b. cond b (standing targets team slot) no_ticket) (le-ltb slot.done slot.n over)
+gathered_gone targets slot over = ap (λ b. cond b (standing targets slot) no_ticket) (le-ltb slot.done slot.n over)
 
 -- So a slot says a ticket exactly where one stands in it.
 has_phase : (kind : Kind) (claims : Bool) → has_ticket (phase_by kind claims) ≡ true
@@ -34,17 +35,17 @@ has_phase Stale claims = refl
 has_phase View true = refl
 has_phase View false = refl
 
-pub gathered_has : (targets : List ℕ) (team : ℕ) (slot : Slot.Ticket) → has_ticket (gathered targets team slot).phase ≡ stands_in slot
+pub gathered_has : (targets : List Target) (slot : Slot.Ticket) → has_ticket (gathered targets slot).phase ≡ stands_in slot
 unfolding gathered
-gathered_has targets team slot = each (stands_in slot)
+gathered_has targets slot = each (stands_in slot)
   where
-    each : (stands : Bool) → has_ticket (cond stands (standing targets team slot) no_ticket).phase ≡ stands
+    each : (stands : Bool) → has_ticket (cond stands (standing targets slot) no_ticket).phase ≡ stands
     each true = has_phase slot.kind (claims_in slot)
     each false = refl
 
 -- After one more try the targets are as before, and the phase follows from the new counts.
-pub gathered_tried : (targets : List ℕ) (team : ℕ) (slot : Slot.Ticket) (kind : Kind) (claimed done : ℕ) → done < slot.n → gathered targets team (tried_slot slot kind claimed done) ≡ advanced (standing targets team slot) (phase_by kind (claims_in (tried_slot slot kind claimed done))) claimed done
-gathered_tried targets team slot kind claimed done below = gathered_stands targets team (tried_slot slot kind claimed done) below
+pub gathered_tried : (targets : List Target) (slot : Slot.Ticket) (kind : Kind) (claimed done : ℕ) → done < slot.n → gathered targets (tried_slot slot kind claimed done) ≡ advanced (standing targets slot) (phase_by kind (claims_in (tried_slot slot kind claimed done))) claimed done
+gathered_tried targets slot kind claimed done below = gathered_stands targets (tried_slot slot kind claimed done) below
 
 -- The phase of an edit with nothing done: claiming, until all are claimed.
 phase_of_edit : (slot : Slot.Ticket) (kind : Kind) (claimed done : ℕ) (claims : Bool) → kind ≡ Edit → done ≡ 0 → ltb claimed slot.n ≡ claims → phase_by kind (claims_in (tried_slot slot kind claimed done)) ≡ cond claims Claiming Putting
@@ -54,14 +55,14 @@ phase_of_edit slot kind claimed done claims edit none is =
     ∙ ap (λ b. cond b Claiming Putting) is
 
 -- One more word claimed.
-pub gathered_claimed : (targets : List ℕ) (team : ℕ) (slot : Slot.Ticket) → slot.kind ≡ Edit → slot.done ≡ 0 → slot.claimed < slot.n → gathered targets team (tried_slot slot slot.kind (slot.claimed + 1) slot.done) ≡ (claimed (gathered targets team slot)).ticket
-gathered_claimed targets team slot edit none more =
-    gathered_tried targets team slot slot.kind (slot.claimed + 1) slot.done (omega (arith, none, more))
+pub gathered_claimed : (targets : List Target) (slot : Slot.Ticket) → slot.kind ≡ Edit → slot.done ≡ 0 → slot.claimed < slot.n → gathered targets (tried_slot slot slot.kind (slot.claimed + 1) slot.done) ≡ (claimed (gathered targets slot)).ticket
+gathered_claimed targets slot edit none more =
+    gathered_tried targets slot slot.kind (slot.claimed + 1) slot.done (omega (arith, none, more))
     ∙ settles (ℕ_discrete (slot.claimed + 1) slot.n)
-    ∙ sym (ap (λ t. (claimed t).ticket) (gathered_stands targets team slot (omega (arith, none, more))))
+    ∙ sym (ap (λ t. (claimed t).ticket) (gathered_stands targets slot (omega (arith, none, more))))
   where
     now : Phase → ℕ → Ticket
-    now phase done = advanced (standing targets team slot) phase (slot.claimed + 1) done
+    now phase done = advanced (standing targets slot) phase (slot.claimed + 1) done
 
     either : Bool → Ticket
     either all = cond all (now Putting 0) (now Claiming slot.done)
@@ -76,16 +77,16 @@ gathered_claimed targets team slot edit none more =
         ∙ sym (ap either (ne_eqb _ _ some))
 
 -- One more target put: an edit that claims no more goes on putting.
-pub gathered_put : (targets : List ℕ) (team : ℕ) (slot : Slot.Ticket) → slot.kind ≡ Edit → slot.done < slot.n → gathered targets team (tried_slot slot slot.kind slot.claimed (slot.done + 1)) ≡ (put (gathered targets team slot)).ticket
-gathered_put targets team slot edit below =
+pub gathered_put : (targets : List Target) (slot : Slot.Ticket) → slot.kind ≡ Edit → slot.done < slot.n → gathered targets (tried_slot slot slot.kind slot.claimed (slot.done + 1)) ≡ (put (gathered targets slot)).ticket
+gathered_put targets slot edit below =
     settles (ℕ_discrete (slot.done + 1) slot.n)
-    ∙ sym (ap (λ t. (put t).ticket) (gathered_stands targets team slot below))
+    ∙ sym (ap (λ t. (put t).ticket) (gathered_stands targets slot below))
   where
     after : Slot.Ticket
     after = tried_slot slot slot.kind slot.claimed (slot.done + 1)
 
     now : Phase → Ticket
-    now phase = advanced (standing targets team slot) phase slot.claimed (slot.done + 1)
+    now phase = advanced (standing targets slot) phase slot.claimed (slot.done + 1)
 
     either : Bool → Ticket
     either all = (cond all (stepped no_ticket (Answer.Granted (one_more_try slot.tries))) (stepped (now Putting) (Answer.Put (slot.done + 1)))).ticket
@@ -95,18 +96,18 @@ gathered_put targets team slot edit below =
         ap (λ k. phase_by k (claims_in after)) edit
         ∙ ap (λ b. cond (cond b (ltb slot.claimed slot.n) false) Claiming Putting) (ne_eqb (slot.done + 1) 0 (λ e. omega (arith, e)))
 
-    settles : Dec (slot.done + 1 ≡ slot.n) → gathered targets team after ≡ either (eqb (slot.done + 1) slot.n)
-    settles (yes all) = gathered_gone targets team after (omega (arith, all)) ∙ sym (ap either (eq-eqb _ _ all))
+    settles : Dec (slot.done + 1 ≡ slot.n) → gathered targets after ≡ either (eqb (slot.done + 1) slot.n)
+    settles (yes all) = gathered_gone targets after (omega (arith, all)) ∙ sym (ap either (eq-eqb _ _ all))
     settles (no some) =
-        gathered_tried targets team slot slot.kind slot.claimed (slot.done + 1) (omega (arith, some, below))
+        gathered_tried targets slot slot.kind slot.claimed (slot.done + 1) (omega (arith, some, below))
         ∙ ap now phase_after
         ∙ sym (ap either (ne_eqb _ _ some))
 
 -- One more word given back by an edit found stale.
-pub gathered_given : (targets : List ℕ) (team : ℕ) (slot : Slot.Ticket) → slot.kind ≡ Stale → slot.done < slot.claimed → slot.claimed ≤ slot.n → gathered targets team (tried_slot slot slot.kind slot.claimed (done_with_one slot)) ≡ (given_back (gathered targets team slot)).ticket
-gathered_given targets team slot stale below most =
+pub gathered_given : (targets : List Target) (slot : Slot.Ticket) → slot.kind ≡ Stale → slot.done < slot.claimed → slot.claimed ≤ slot.n → gathered targets (tried_slot slot slot.kind slot.claimed (done_with_one slot)) ≡ (given_back (gathered targets slot)).ticket
+gathered_given targets slot stale below most =
     settles (ℕ_discrete (slot.done + 1) slot.claimed)
-    ∙ sym (ap (λ t. (given_back t).ticket) (gathered_stands targets team slot (omega (arith, below, most))))
+    ∙ sym (ap (λ t. (given_back t).ticket) (gathered_stands targets slot (omega (arith, below, most))))
   where
     after : ℕ → Slot.Ticket
     after done = tried_slot slot slot.kind slot.claimed done
@@ -114,19 +115,19 @@ gathered_given targets team slot stale below most =
     either : Bool → Ticket
     either all =
         (cond all
-        (stepped no_ticket (Answer.Stale (target_at (standing targets team slot) slot.claimed).word (one_more_try slot.tries)))
-        (stepped (advanced (standing targets team slot) GivingBack slot.claimed (slot.done + 1)) (Answer.Returned (slot.done + 1)))).ticket
+        (stepped no_ticket (Answer.Stale (target_at (standing targets slot) slot.claimed).word (one_more_try slot.tries)))
+        (stepped (advanced (standing targets slot) GivingBack slot.claimed (slot.done + 1)) (Answer.Returned (slot.done + 1)))).ticket
 
     counted : Bool → ℕ
     counted all = cond all slot.n (slot.done + 1)
 
-    settles : Dec (slot.done + 1 ≡ slot.claimed) → gathered targets team (after (done_with_one slot)) ≡ either (eqb (slot.done + 1) slot.claimed)
+    settles : Dec (slot.done + 1 ≡ slot.claimed) → gathered targets (after (done_with_one slot)) ≡ either (eqb (slot.done + 1) slot.claimed)
     settles (yes all) =
-        ap (λ b. gathered targets team (after (counted b))) (eq-eqb _ _ all)
-        ∙ gathered_gone targets team (after slot.n) (omega arith)
+        ap (λ b. gathered targets (after (counted b))) (eq-eqb _ _ all)
+        ∙ gathered_gone targets (after slot.n) (omega arith)
         ∙ sym (ap either (eq-eqb _ _ all))
     settles (no some) =
-        ap (λ b. gathered targets team (after (counted b))) (ne_eqb _ _ some)
-        ∙ gathered_tried targets team slot slot.kind slot.claimed (slot.done + 1) (omega (arith, some, below, most))
-        ∙ ap (λ k. advanced (standing targets team slot) (phase_by k (claims_in (after (slot.done + 1)))) slot.claimed (slot.done + 1)) stale
+        ap (λ b. gathered targets (after (counted b))) (ne_eqb _ _ some)
+        ∙ gathered_tried targets slot slot.kind slot.claimed (slot.done + 1) (omega (arith, some, below, most))
+        ∙ ap (λ k. advanced (standing targets slot) (phase_by k (claims_in (after (slot.done + 1)))) slot.claimed (slot.done + 1)) stale
         ∙ sym (ap either (ne_eqb _ _ some))

@@ -1,11 +1,12 @@
--- The table as the code has it: a small ticket in each team's slot, and the targets of all in one array. What it says, as a table of the definitions' tickets, is gathered here.
-use Rattle.std.specs.Prelude.{ℕ, zero, suc, ◌+◌, ◌*◌, ◌≤◌, ◌<◌, min, ◌≡◌, Bool, false, cond, List, [], ◌∷◌, get_or, set, eqb, ltb}
+-- The table as the code has it: in each team's slot a small ticket and room for its targets. What it says, as a table of the definitions' tickets, is gathered here.
+use Rattle.std.specs.Prelude.{ℕ, zero, suc, ◌+◌, ◌≤◌, ◌<◌, min, ◌≡◌, Bool, false, cond, List, [], ◌∷◌, map, get_or, set, replicate, eqb, ltb}
 use Rattle.words.specs.Words.{most_targets}
 use Rattle.tickets.specs.declared.Phase.{Phase}
 use Rattle.tickets.specs.declared.Phase.TheVariants.{NoTicket, Claiming, Putting, GivingBack, Viewing, Viewed}
 use Rattle.tickets.specs.declared.Kind.{Kind}
 use Rattle.tickets.specs.declared.Kind.TheVariants.{Edit, Stale, View}
 use Rattle.tickets.specs.declared.Ticket as Slot
+use Rattle.tickets.specs.declared.Slot as Kept
 use Rattle.tickets.specs.declared.Tickets as Table
 use Rattle.tickets.specs.declared.Target.{Target}
 use Rattle.tickets.specs.Tickets.{Ticket, Tickets, target, padded, no_ticket}
@@ -15,24 +16,32 @@ use Rattle.tickets.specs.Steps.{one_more_try}
 abbrev pub target_room : ℕ
 target_room = most_targets
 
--- Where target k of a team stands, counted from 0: its word, and behind that its quoted and its new value.
-abbrev pub place_of : ℕ → ℕ → ℕ
-place_of team k = 3 * (target_room * team + k)
+-- What stands where no target was stored yet.
+abbrev pub no_target : Target
+no_target = target 0 0 0
 
 -- Target k of a team, as it stands.
-abbrev pub target_standing : List ℕ → ℕ → ℕ → Target
-target_standing targets team k =
-    let place = place_of team k in
-    target (get_or targets place 0) (get_or targets (place + 1) 0) (get_or targets (place + 2) 0)
+abbrev pub target_standing : List Target → ℕ → Target
+target_standing targets k = get_or targets k no_target
 
--- The array with a value noted for target k of a team, where an edit has the quoted one.
-abbrev pub noted_at : List ℕ → ℕ → ℕ → ℕ → List ℕ
-noted_at targets team k value = set targets (place_of team k + 1) value
+-- The targets with a value noted for target k, where an edit has the quoted one.
+abbrev pub noted_at : List Target → ℕ → ℕ → List Target
+noted_at targets k value = set targets k (target (target_standing targets k).word value (target_standing targets k).new)
 
--- So many numbers of targets, one after another: their words, or their quoted, or their new values, by the place of the first.
-unfoldable pub column : List ℕ → ℕ → ℕ → List ℕ
-column targets place zero = []
-column targets place (suc more) = get_or targets place 0 ∷ column targets (place + 3) more
+-- The three numbers of a target.
+abbrev pub word_in : Target → ℕ
+word_in target = target.word
+
+abbrev pub quoted_in : Target → ℕ
+quoted_in target = target.quoted
+
+abbrev pub new_in : Target → ℕ
+new_in target = target.new
+
+-- One number of so many targets, from target k on.
+unfoldable pub column : (Target → ℕ) → List Target → ℕ → ℕ → List ℕ
+column number targets k zero = []
+column number targets k (suc more) = number (target_standing targets k) ∷ column number targets (k + 1) more
 
 -- The slot of a team with no ticket.
 abbrev pub no_slot : Slot.Ticket
@@ -67,15 +76,14 @@ phase_by View claims = cond claims Viewing Viewed
 abbrev pub phase_of : Slot.Ticket → Phase
 phase_of slot = cond (stands_in slot) (phase_by slot.kind (claims_in slot)) NoTicket
 
--- A standing ticket, gathered: its counts from the slot, its targets from the array, zeros behind them.
-abbrev pub standing : List ℕ → ℕ → Slot.Ticket → Ticket
-standing targets team slot =
+-- A standing ticket, gathered: its counts from the slot, its targets from the room beside it, zeros behind them.
+abbrev pub standing : List Target → Slot.Ticket → Ticket
+standing targets slot =
     let many = min slot.n most_targets in
-    let place = place_of team 0 in
     record {
-      words = padded (column targets place many);
-      quoted = padded (column targets (place + 1) many);
-      new = padded (column targets (place + 2) many);
+      words = padded (column word_in targets 0 many);
+      quoted = padded (column quoted_in targets 0 many);
+      new = padded (column new_in targets 0 many);
       n = slot.n;
       tries = slot.tries;
       claimed = slot.claimed;
@@ -84,41 +92,43 @@ standing targets team slot =
     }
 
 -- So many targets of a team as they stand, as a ticket just opened has them.
-abbrev pub targets_of : List ℕ → ℕ → ℕ → Ticket
-targets_of targets team n = standing targets team (opened_slot Edit n)
+abbrev pub targets_of : List Target → ℕ → Ticket
+targets_of targets n = standing targets (opened_slot Edit n)
 
 -- The ticket that a slot says; "a finished ticket is gone".
-unfoldable pub gathered : List ℕ → ℕ → Slot.Ticket → Ticket
-gathered targets team slot = cond (stands_in slot) (standing targets team slot) no_ticket
+unfoldable pub gathered : List Target → Slot.Ticket → Ticket
+gathered targets slot = cond (stands_in slot) (standing targets slot) no_ticket
 
--- Numbers that differ in one team's room only.
-pub record ElsewhereSame (before after : List ℕ) (team : ℕ) : Type 0 where
-  pub below : (place : ℕ) → place < place_of team 0 → get_or after place 0 ≡ get_or before place 0
-  pub above : (place : ℕ) → place_of (team + 1) 0 ≤ place → get_or after place 0 ≡ get_or before place 0
-
--- Statement: the numbers behind a ticket's targets are free, and so are all numbers of a slot with no ticket: what is gathered is the same whatever they are.
+-- Statement: the targets behind a ticket's are free, and so are all targets of a slot with no ticket: what is gathered is the same whatever they are.
 abbrev pub NumbersBehindAreFree : Type 0
 NumbersBehindAreFree =
-    (before after : List ℕ) (team : ℕ) (slot : Slot.Ticket)
-    → (slot.done < slot.n → (k : ℕ) → k < slot.n → k < most_targets → target_standing after team k ≡ target_standing before team k)
-    → gathered after team slot ≡ gathered before team slot
+    (before after : List Target) (slot : Slot.Ticket)
+    → (slot.done < slot.n → (k : ℕ) → k < slot.n → k < most_targets → target_standing after k ≡ target_standing before k)
+    → gathered after slot ≡ gathered before slot
 
 -- Statement: so are the counts of a slot with no ticket.
 abbrev pub FinishedSlotsAreFree : Type 0
-FinishedSlotsAreFree = (targets : List ℕ) (team : ℕ) (slot : Slot.Ticket) → slot.n ≤ slot.done → gathered targets team slot ≡ no_ticket
+FinishedSlotsAreFree = (targets : List Target) (slot : Slot.Ticket) → slot.n ≤ slot.done → gathered targets slot ≡ no_ticket
 
-unfoldable pub gathered_from : List ℕ → ℕ → List Slot.Ticket → List Ticket
-gathered_from targets team [] = []
-gathered_from targets team (slot ∷ slots) = gathered targets team slot ∷ gathered_from targets (team + 1) slots
+abbrev pub ticket_said : Kept.Slot → Ticket
+ticket_said slot = gathered slot.targets slot.ticket
 
--- The code's table of these slots and targets.
-abbrev pub table_with : List Slot.Ticket → List ℕ → Table.Tickets
-table_with slots targets = record { slots = slots; targets = targets }
+-- A slot to begin with: no ticket, and zeros in its room.
+abbrev pub fresh_slot : Kept.Slot
+fresh_slot = record { ticket = no_slot; targets = replicate target_room no_target }
+
+-- What is read of a slot that a table doesn't have: no ticket, and no targets.
+abbrev pub absent_slot : Kept.Slot
+absent_slot = record { ticket = no_slot; targets = [] }
+
+-- The code's table of these slots.
+abbrev pub table_with : List Kept.Slot → Table.Tickets
+table_with slots = record { slots = slots }
 
 -- The table that the code's table says.
 abbrev pub table_of : Table.Tickets → Tickets
-table_of table = record { slots = gathered_from table.targets 0 table.slots }
+table_of table = record { slots = map ticket_said table.slots }
 
 -- A team's slot.
-abbrev pub slot_of : Table.Tickets → ℕ → Slot.Ticket
-slot_of table team = get_or table.slots team no_slot
+abbrev pub slot_of : Table.Tickets → ℕ → Kept.Slot
+slot_of table team = get_or table.slots team absent_slot

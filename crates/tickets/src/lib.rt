@@ -1,19 +1,20 @@
-// A team's ticket by value, and the table of tickets: a small ticket for each team, and the targets of all in one array.
+// A team's ticket by value, and the table of tickets: a slot for each team, with its ticket and room for the ticket's targets.
 #![tactic(auto)]
 
-ghost use Rattle.std.specs.Prelude.{◌≡◌, false, List, ℕ, ◌+◌, ◌*◌, ◌≤◌, ◌<◌};
-ghost use Rattle.words.specs.Words.{team_count};
+ghost use Rattle.std.specs.Prelude.{◌≡◌, false, List, ◌+◌, ◌≤◌, ◌<◌};
 ghost use Rattle.tickets.specs.Tickets.{fresh_tickets};
 ghost use Rattle.tickets.specs.Steps.{one_more_try, claimed, put, given_back};
 ghost use Rattle.tickets.specs.declared.Kind.TheVariants.{Edit, Stale, View};
-ghost use Rattle.tickets.specs.Table.{target_room, place_of, no_slot, opened_slot, tried_slot, stands_in, claims_in, phase_by, phase_of, done_with_one, gathered, table_of};
+ghost use Rattle.tickets.specs.declared.Target.{Target};
+ghost use Rattle.tickets.specs.Table.{no_target, no_slot, fresh_slot, opened_slot, tried_slot, stands_in, claims_in, phase_by, phase_of, done_with_one, gathered, table_of};
 
 use words::Limits;
 
-// A word, the value that the edit quotes for it (in the source document: expected) and its new value (desired).
+// A word, the value that the edit quotes for it (in the source document: expected) and its new value (desired). A table may be lent with
+// any number in the word's place, so that it has room for one.
 #[derive(Clone, Copy)]
 pub struct Target {
-    pub word: u16,
+    pub word: u64,
     pub quoted: u64,
     pub new: u64,
 }
@@ -40,7 +41,7 @@ pub enum Kind {
 
 // A ticket (in the source document: a multi-word compare-and-swap descriptor) in its team's slot: how many targets it has,
 // how many are claimed, how many are done, and its tries. Its phase follows from these. It is small, so that it goes by value
-// at no cost; its targets stand in the table.
+// at no cost; its targets stand beside it in the slot.
 #[derive(Clone, Copy)]
 pub struct Ticket {
     pub tries: u32,
@@ -50,13 +51,18 @@ pub struct Ticket {
     pub kind: Kind,
 }
 
-// One slot for each team, and the targets of all tickets, one team's after another's: of each its word, its quoted and its new
-// value. A view keeps the values that it found where an edit keeps those it quotes, and the words in the order named
-// where an edit keeps new values.
+// What is kept for a team: its ticket, and room for the targets. A view keeps the values that it found where an edit keeps those it
+// quotes, and the words in the order named where an edit keeps new values.
+#[derive(Clone, Copy)]
+pub struct Slot {
+    pub ticket: Ticket,
+    pub targets: [Target; Tickets::ROOM],
+}
+
+// One slot for each team.
 #[derive(Clone, Copy)]
 pub struct Tickets {
-    pub slots: [Ticket; Limits::TEAMS],
-    pub targets: [u64; Tickets::NUMBERS],
+    pub slots: [Slot; Limits::TEAMS],
 }
 
 // The conditional swap that a step tries.
@@ -189,7 +195,7 @@ impl Ticket {
     pub fn claim(self) -> Ticket
         requires { (self.done ≡ 0) × (self.claimed < self.n) }
         ensures slot { result ≡ tried_slot self self.kind (self.claimed + 1) self.done }
-        ensures edit { self.kind ≡ Edit → (targets : List ℕ) (team : ℕ) → gathered targets team result ≡ (claimed (gathered targets team self)).ticket }
+        ensures edit { self.kind ≡ Edit → (targets : List Target) → gathered targets result ≡ (claimed (gathered targets self)).ticket }
     {
         self.advanced(self.claimed + 1, self.done)
     }
@@ -198,7 +204,7 @@ impl Ticket {
     pub fn put(self) -> Ticket
         requires { (self.kind ≡ Edit) × (self.done < self.n) × (claims_in self ≡ false) }
         ensures slot { result ≡ tried_slot self self.kind self.claimed (self.done + 1) }
-        ensures edit { (targets : List ℕ) (team : ℕ) → gathered targets team result ≡ (put (gathered targets team self)).ticket }
+        ensures edit { (targets : List Target) → gathered targets result ≡ (put (gathered targets self)).ticket }
     {
         self.advanced(self.claimed, self.done + 1)
     }
@@ -216,7 +222,7 @@ impl Ticket {
     pub fn give_back(self) -> Ticket
         requires { (self.done < self.claimed) × (self.claimed ≤ self.n) }
         ensures slot { result ≡ tried_slot self self.kind self.claimed (done_with_one self) }
-        ensures edit { self.kind ≡ Stale → (targets : List ℕ) (team : ℕ) → gathered targets team result ≡ (given_back (gathered targets team self)).ticket }
+        ensures edit { self.kind ≡ Stale → (targets : List Target) → gathered targets result ≡ (given_back (gathered targets self)).ticket }
     {
         self.advanced(self.claimed, self.given())
     }
@@ -241,30 +247,41 @@ impl Ticket {
     }
 }
 
+impl Target {
+    // What stands where no target was stored yet.
+    pub fn none() -> Target
+        ensures { result ≡ no_target }
+    {
+        Target {
+            word: 0,
+            quoted: 0,
+            new: 0,
+        }
+    }
+}
+
+impl Slot {
+    // A slot to begin with: no ticket, and zeros in its room.
+    pub fn fresh() -> Slot
+        ensures { result ≡ fresh_slot }
+    {
+        Slot {
+            ticket: Ticket::none(),
+            targets: [Target::none(); Tickets::ROOM],
+        }
+    }
+}
+
 impl Tickets {
     // Room for the targets of one team.
     pub const ROOM: usize = Limits::TARGETS;
-
-    // The numbers of one target, and of all.
-    pub const TARGET: usize = 3;
-
-    pub const NUMBERS: usize = Tickets::TARGET * Tickets::ROOM * Limits::TEAMS;
-
-    // Where target k of a slot stands: its word, and behind that its quoted and its new value.
-    pub fn place(slot: usize, k: u16) -> usize
-        requires { (slot < team_count) × (k < target_room) }
-        ensures { (result ≡ place_of slot k) × (result + 2 < 3 * (target_room * team_count)) }
-    {
-        Tickets::TARGET * (Tickets::ROOM * slot + k as usize)
-    }
 
     // No team has a ticket.
     pub fn fresh() -> Tickets
         ensures { table_of result ≡ fresh_tickets }
     {
         Tickets {
-            slots: [Ticket::none(); Limits::TEAMS],
-            targets: [0; Tickets::NUMBERS],
+            slots: [Slot::fresh(); Limits::TEAMS],
         }
     }
 }

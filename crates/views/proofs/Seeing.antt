@@ -1,51 +1,46 @@
 -- The values that a view shows, as they are read from the table: target by target, and name by name.
-use Prim.Native.Nat.{ℕ, zero, suc, ◌+◌, ◌-◌, ◌≤◌, ◌<◌}
+use Prim.Native.Nat.{ℕ, zero, suc, ◌+◌, ◌≤◌, ◌<◌}
 use mathlib.Core.Path.{◌≡◌, refl, sym, ap, ◌∙◌}
-use mathlib.Core.List.{List, map}
+use mathlib.Core.List.{List, [], ◌∷◌, map}
 use native.Mathlib.Omega.{arith}
+use borrow.Author.Tests.{eq-eqb, ne_eqb}
+use lib.Dec.{eqb}
 use native.Mathlib.Decide.{ℕ_discrete, dec_lt}
 use native.Mathlib.Nat.{not-suc-le-zero}
-use lib.ListN.{length, get_or, set, replicate, length-set, length-replicate}
+use lib.ListN.{length, get_or, set, replicate, take, length-set, length-replicate}
 use lib.Seq.{get_or-set_same, get_or-set_other}
+use Rattle.std.specs.Option.{option_map_or}
+use Rattle.std.specs.List.{find}
 use Rattle.words.specs.Words.{most_targets, most_named}
-use Rattle.tickets.specs.declared.Kind.TheVariants.{Edit}
 use Rattle.tickets.specs.declared.Target.{Target}
 use Rattle.tickets.specs.declared.Values.{Values}
 use Rattle.tickets.specs.declared.Ticket as Slot
-use Rattle.tickets.specs.Tickets.{Ticket, target_at, targets_from, targets_in}
+use Rattle.tickets.specs.Tickets.{Ticket, target_at}
 use Rattle.tickets.specs.Steps.{value_noted, values_named, value_named, values_from, values_seen}
+use Rattle.tickets.proofs.TargetLists.{target_listed}
 use Rattle.tickets.proofs.Room.{in_room_by}
-use Rattle.tickets.specs.Table.{place_of, target_standing, opened_slot, standing, targets_of}
-use Rattle.tickets.proofs.Tables.{target_stands, targets_alike}
-use Rattle.tickets.proofs.Passing.{noted_here, noted_later, shown_value, no_value_shown}
+use Rattle.tickets.specs.Table.{no_target, quoted_in, standing, targets_of}
+use Rattle.tickets.proofs.Tables.{targets_alike, targets_taken}
+use Rattle.tickets.proofs.Passing.{shown_value, no_value_shown}
 
-module _ (targets : List ℕ) (team n k place : ℕ) (below : k < n) (most : n ≤ most_targets) (there : place ≡ place_of team k) where
-  abbrev there_are : Ticket
-  there_are = targets_of targets team n
+-- The value noted for a word, as the library finds it.
+pub noted_found : (targets : List Target) (word : ℕ) → option_map_or quoted_in (find (λ target. eqb target.word word) targets) 0 ≡ value_noted targets word
+unfolding value_noted
+noted_found [] word = refl
+noted_found (one ∷ later) word = elim (ℕ_discrete word one.word) [
+  | yes same ↦ rw (eq-eqb word one.word same, eq-eqb one.word word (sym same)) refl
+  | no other ↦ rw (ne_eqb word one.word other, ne_eqb one.word word (λ same. other (sym same))) (noted_found later word)
+]
 
-  -- Target k, as it is read.
-  target_there : target_standing targets team k ≡ target_at there_are k
-  target_there = sym (target_stands targets team k (opened_slot Edit n) below (omega (arith, below, most)))
-
-  word_read : get_or targets place 0 ≡ (target_at there_are k).word
-  word_read = ap (λ (p : ℕ). get_or targets p 0) there ∙ ap (λ (one : Target). one.word) target_there
-
-  -- Its value is the one noted for its word, and for no other.
-  pub noted_read : (word : ℕ) → get_or targets place 0 ≡ word → get_or targets (place + 1) 0 ≡ value_noted (targets_from k (n - k) there_are) word
-  noted_read word same =
-      ap (λ (p : ℕ). get_or targets (p + 1) 0) there
-      ∙ ap (λ (one : Target). one.quoted) target_there
-      ∙ sym (noted_here there_are word n k below (sym word_read ∙ same))
-
-  pub noted_passed : (word : ℕ) → (get_or targets place 0 ≡ word → ⊥) → value_noted (targets_from k (n - k) there_are) word ≡ value_noted (targets_from (k + 1) (n - (k + 1)) there_are) word
-  noted_passed word other = noted_later there_are word n k below (λ same. other (word_read ∙ same))
-
-  -- The k-th value shown is the one noted for the k-th name.
-  pub shown_read : (value : ℕ) → value ≡ value_noted (targets_in there_are) (get_or targets (place + 2) 0) → value ≡ value_named there_are k
-  shown_read value noted =
-      noted
-      ∙ ap (value_noted (targets_in there_are)) (ap (λ (p : ℕ). get_or targets (p + 2) 0) there ∙ ap (λ (one : Target). one.new) target_there)
-      ∙ sym (shown_value there_are k below)
+-- The k-th value shown is the one noted for the k-th name.
+pub shown_read : (targets : List Target) (n k : ℕ) → k < n → n ≤ most_targets → n ≤ length targets → (value : ℕ) → value ≡ value_noted (take n targets) (get_or (take n targets) k no_target).new → value ≡ value_named (targets_of targets n) k
+shown_read targets n k below most room value noted =
+    noted
+    ∙ (λ i. value_noted (sym (targets_taken targets n most room) i) (sym there i).new)
+    ∙ sym (shown_value (targets_of targets n) k below)
+  where
+    there : target_at (targets_of targets n) k ≡ get_or (take n targets) k no_target
+    there = sym (target_listed (targets_of targets n) k below) ∙ ap (λ l. get_or l k no_target) (targets_taken targets n most room)
 
 -- The first k values are there, zeros behind them.
 pub record ShownTo (values : List ℕ) (ticket : Ticket) (k : ℕ) : Type 0 where
@@ -86,7 +81,7 @@ pub values_seen_by : (values : List ℕ) (ticket : Ticket) (k : ℕ) → ShownTo
 values_seen_by values ticket k so_far all =
     ap (λ (room : List ℕ). record { n = ticket.n; values = room }) (in_room_by (values_named ticket) values so_far.long (λ j _. shown_all values ticket k so_far all j))
 
--- Of a standing view too, whose targets are those.
-pub standing_seen : (targets : List ℕ) (team : ℕ) (slot : Slot.Ticket) → values_seen (targets_of targets team slot.n) ≡ values_seen (standing targets team slot)
-standing_seen targets team slot =
-    ap (λ (l : List Target). values_from slot.n (map (value_noted l) (map (λ (one : Target). one.new) l))) (sym (targets_alike targets team slot))
+-- Of a standing view, whose targets are those.
+pub standing_seen : (targets : List Target) (slot : Slot.Ticket) → values_seen (targets_of targets slot.n) ≡ values_seen (standing targets slot)
+standing_seen targets slot =
+    ap (λ (l : List Target). values_from slot.n (map (value_noted l) (map (λ (one : Target). one.new) l))) (sym (targets_alike targets slot))

@@ -3,7 +3,7 @@
 
 ghost use Rattle.std.specs.Prelude.{◌≡◌, Bool, true, ◌≤◌, ◌<◌, length, set, cond};
 ghost use Rattle.words.specs.Tests.{occurs, distinct};
-ghost use Rattle.words.specs.Words.{team_count, passage_count, last_leg_in, last_leg, is_held, mark_of, holder_of, newest_word, count_word, link_word_in, link_word, place_word, measure_word, newer_word, read_of, swap_of, any_value};
+ghost use Rattle.words.specs.Words.{team_count, passage_count, leg_words, last_leg_in, last_leg, is_held, mark_of, holder_of, newest_word, count_word, link_word_in, link_word, place_word, measure_word, newer_word, read_of, swap_of, any_value};
 
 // The limits of the book and its layout.
 #[derive(Drop)]
@@ -90,6 +90,8 @@ pub fn holder(word: u64) -> u16
     Limits::NOBODY
 }
 
+// A passage's number comes from a field, a word or a loop: a type with the range as its invariant would be made anew at each
+// use, from this same fact, here and wherever it is asked for.
 pub fn newest_word(passage: u16) -> u16
     requires { passage < passage_count }
     ensures { result ≡ newest_word passage }
@@ -104,11 +106,39 @@ pub fn count_word(passage: u16) -> u16
     newest_word(passage) + 1
 }
 
+fn leg_words(layout: LegLayout) -> u16
+    ensures { result ≡ leg_words layout }
+{
+    match layout {
+        LegLayout::ThreeWords => Limits::OLD_LEG_WORDS,
+        LegLayout::FourWords => Limits::LEG_WORDS,
+    }
+}
+
+pub fn last_leg_in(layout: LegLayout) -> u16
+    ensures { result ≡ last_leg_in layout }
+{
+    match layout {
+        LegLayout::ThreeWords => Limits::LAST_OLD_LEG,
+        LegLayout::FourWords => Limits::LAST_LEG,
+    }
+}
+
+// Where a leg starts in either layout; its place and its measure are the next two words.
+pub fn link_word_in(layout: LegLayout, leg: u16) -> u16
+    requires { (1 ≤ leg) × (leg ≤ last_leg_in layout) }
+    ensures { result ≡ link_word_in layout leg }
+{
+    Limits::PASSAGE_WORDS * Limits::PASSAGES + leg_words(layout) * (leg - 1)
+}
+
+// A leg's number comes from a field, a link or a loop, where 0 means none, and in an old book is up to 1,344: a type with the
+// range as its invariant would be made anew at each use, from these same facts, here and wherever they are asked for.
 pub fn link_word(leg: u16) -> u16
     requires { (1 ≤ leg) × (leg ≤ last_leg) }
     ensures { result ≡ link_word leg }
 {
-    Limits::PASSAGE_WORDS * Limits::PASSAGES + Limits::LEG_WORDS * (leg - 1)
+    link_word_in(LegLayout::FourWords, leg)
 }
 
 pub fn place_word(leg: u16) -> u16
@@ -130,27 +160,6 @@ pub fn newer_word(leg: u16) -> u16
     ensures { result ≡ newer_word leg }
 {
     link_word(leg) + 3
-}
-
-pub fn last_leg_in(layout: LegLayout) -> u16
-    ensures { result ≡ last_leg_in layout }
-{
-    match layout {
-        LegLayout::ThreeWords => Limits::LAST_OLD_LEG,
-        LegLayout::FourWords => Limits::LAST_LEG,
-    }
-}
-
-// Where a leg starts in either layout; its place and its measure are the next two words.
-pub fn link_word_in(layout: LegLayout, leg: u16) -> u16
-    requires { (1 ≤ leg) × (leg ≤ last_leg_in layout) }
-    ensures { result ≡ link_word_in layout leg }
-{
-    match layout {
-        LegLayout::ThreeWords => Limits::PASSAGE_WORDS * Limits::PASSAGES
-            + Limits::OLD_LEG_WORDS * (leg - 1),
-        LegLayout::FourWords => link_word(leg),
-    }
 }
 
 // One read of one word (Figure 8, without its loop).

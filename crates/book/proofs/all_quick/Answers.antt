@@ -1,32 +1,14 @@
 -- `book::all_quick` meets its contract: the map asks the same of one slot after another, since no call changes the closure.
-use Prim.Native.Nat.{ℕ, zero, suc, ◌+◌, ◌≤◌, ◌<◌}
-use mathlib.Core.Path.{◌≡◌, sym, ap, subst, ◌∙◌}
-use mathlib.Core.List.{List}
 use native.Mathlib.Omega.{arith}
-use native.Mathlib.Decide.{ℕ_discrete}
-use lib.ListN.{get_or}
 use borrow.Author.Rules.{rules}
-use denote.Param.Members.{Mut}
-use Rattle.std.specs.Fn.{Called}
-use Rattle.std.specs.Array.{MapsFrom}
-use Rattle.tickets.specs.Table.{no_slot}
+use Rattle.tickets.specs.Table.{absent_slot}
 use Rattle.book.specs.Quickly.{quick_for}
+use Rattle.making.proofs.Mapping.{mapped}
 use Rattle.book.proofs.all_quick.Goals as goal
-
-mapped : {F A B : Type 0} (g : Mut F (A × Unit {0}) B) (h : A → B) (f : F) → ((x : A) (y : B) (q : F) → Called g f (x, tt) y q → (q ≡ f) × (y ≡ h x))
-    → (xs : List A) (ys : List B) (i n : ℕ) → MapsFrom g f xs ys i n → (k : ℕ) → i ≤ k → k < i + n → (d : A) (e : B) → get_or ys k e ≡ h (get_or xs k d)
-mapped g h f same xs ys i zero run k from below d e = absurd (omega (arith, from, below))
-mapped g h f same xs ys i (suc n) run k from below d e =
-    let (q, x, y, is_x, is_y, called, rest) = run in
-    let (kept, is) = same x y q called in
-    elim (ℕ_discrete k i) [
-      | yes here ↦ ap (λ (j : ℕ). get_or ys j e) here ∙ is_y.1 e ∙ is ∙ ap h (sym (ap (λ (j : ℕ). get_or xs j d) here ∙ is_x.1 d))
-      | no later ↦ mapped g h f same xs ys (i + 1) n (subst (λ s. MapsFrom g s xs ys (i + 1) n) kept rest) k (omega (arith, from, later)) (omega (arith, below)) d e
-    ]
 
 pub returns : goal.returns
 returns c = record {
   slots_room = c.well_formed.0.1.0.1;
   room = c.map.ensures.items.long;
-  each = λ team inside. mapped _ (quick_for c.args.known) _ (λ x y q called. search rules) c.args.slots c.map.result 0 16 c.map.ensures.items.each team (omega arith) (omega (arith, inside)) no_slot 0;
+  each = λ team inside. mapped _ (λ slot. quick_for c.args.known slot.ticket) _ (λ x y q called. search rules) c.args.slots c.map.result 0 16 c.map.ensures.items.each team (omega arith) (omega (arith, inside)) absent_slot 0;
 }

@@ -6,7 +6,7 @@ use mathlib.Core.Bool.{false≢true}
 use Rattle.words.specs.Words.{team_count}
 use Rattle.dispatch.proofs.Aiming.{slot_below}
 use Rattle.quick.proofs.Trying.{none_missed}
-use Rattle.book.proofs.Answering.{no_step_by, step_answered, frame_answered, frame_others}
+use Rattle.book.proofs.Answering.{no_step_by, step_answered, frame_answered}
 use Rattle.book.proofs.answer.Goals as goal
 
 pub other_step-requires : goal.other_step-requires
@@ -17,7 +17,7 @@ other_step-requires c =
 pub returns-then-is_step : goal.returns-then-is_step
 returns-then-is_step c =
     let left = c.other_step in
-    record { left = step_answered c.args.book.now c.args.targets.now c.args.ranks.now c.args.frame.now (aim_numbered c.args.aim) c.args.slot c.requires.2 c.args.ticket _ _ _ _ _ _ _ _ (sym c.is_step.ensures ∙ c.if-is_step.true) refl left.ensures; others = left.ensures.others }
+    step_answered c.args.book.now c.args.targets.now c.args.ranks.now c.args.frame.now (aim_numbered c.args.aim) c.args.team c.requires.2 c.args.ticket _ _ _ _ _ _ _ _ (sym c.is_step.ensures ∙ c.if-is_step.true) refl left.ensures
 
 pub other_frame-opened-requires : goal.other_frame-opened-requires
 other_frame-opened-requires c =
@@ -27,4 +27,4 @@ pub returns : goal.returns
 returns c =
     let frame = c.other_frame-opened in
     let other = no_step_by (aim_numbered c.args.aim) (sym c.is_step.ensures ∙ c.if-is_step.false) in
-    record { left = frame_answered c.args.book.now c.args.targets.now c.args.ranks.now c.args.frame.now (aim_numbered c.args.aim) c.args.slot c.requires.2 c.args.ticket frame.result _ _ _ _ _ other (sym c.unwrap_or.ensures) frame.ensures; others = frame_others c.args.book.now c.args.targets.now c.args.ranks.now c.args.frame.now (aim_numbered c.args.aim) c.args.slot c.requires.2 c.args.ticket frame.result _ _ _ _ frame.ensures }
+    frame_answered c.args.book.now c.args.targets.now c.args.ranks.now c.args.frame.now (aim_numbered c.args.aim) c.args.team c.requires.2 c.args.ticket frame.result _ _ _ _ _ other (sym c.unwrap_or.ensures) frame.ensures

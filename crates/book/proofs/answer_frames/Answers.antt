@@ -5,8 +5,8 @@ use Prim.Native.Nat.{ℕ, ◌-◌, ◌<◌}
 use mathlib.Core.Path.{◌≡◌, refl, sym, ap, subst, ◌∙◌}
 use mathlib.Core.List.{List}
 use lib.ListN.{length}
-use Rattle.tickets.specs.Table.{table_with, table_of}
-use Rattle.calls.specs.Stream.{streamed, stream_from}
+use Rattle.tickets.specs.Table.{table_of}
+use Rattle.calls.specs.Stream.{stream_from}
 use Rattle.book.specs.Quickly.{QuickSlots}
 use Rattle.words.specs.Words.{words_in_book, team_count}
 use Rattle.frames.specs.Requests.{step_kind}
@@ -45,7 +45,7 @@ step_turn c =
       known = c.all_well_made-known.result;
       words = loop.book;
       out = loop.out;
-      table = table_with loop.slots loop.targets;
+      table = loop.tickets;
       at = loop.at;
       filled = loop.filled;
       goes = loop.invariant.0;
@@ -96,7 +96,7 @@ other_turn c aim told =
       known = c.all_well_made-known.result;
       words = loop.book;
       out = loop.out;
-      table = table_with loop.slots loop.targets;
+      table = loop.tickets;
       at = loop.at;
       filled = loop.filled;
       goes = loop.invariant.0;
@@ -137,50 +137,36 @@ pub returns-in-Err : goal.returns-in-Err
 returns-in-Err c =
     let loop = c.loop-next in
     let left = loop.invariant.0.left in
-    let is = c.stopped.ensures in
-    let made = c.table_with.ensures in (
+    let is = c.stopped.ensures in (
       (omega (arith, is.1, loop.invariant.0.inside), omega (arith, is.2, loop.invariant.0.fits, loop.invariant.0.same_length)),
       (λ i. (is.0 i, loop.book, loop.out))
-          ∙ (λ i. (streamed (table_of (made i)) loop.at loop.filled c.in-Err.stop, loop.book, loop.out))
-          ∙ sym (ends_ahead loop.book (table_with loop.slots loop.targets) _ c.args.input.now loop.out loop.at loop.filled left.most _ left.enough (sym c.next_at.ensures.0 ∙ c.in-Err.is))
+          ∙ sym (ends_ahead loop.book loop.tickets _ c.args.input.now loop.out loop.at loop.filled left.most _ left.enough (sym c.next_at.ensures.0 ∙ c.in-Err.is))
           ∙ left.is,
     )
 
 pub overflow_add-at : goal.overflow_add-at
 overflow_add-at c = omega (arith, (step_inside (goal.at.overflow_add-at c).In-Step).0.inside)
 
-pub offset_bounds-slots-slot : goal.offset_bounds-slots-slot
-offset_bounds-slots-slot c = omega (arith, team_below (goal.at.offset_bounds-slots-slot c).In-Step)
+pub offset_bounds-tickets-team : goal.offset_bounds-tickets-team
+offset_bounds-tickets-team c = omega (arith, team_below (goal.at.offset_bounds-tickets-team c).In-Step)
 
-pub bounds-slots-slot : goal.bounds-slots-slot
-bounds-slots-slot c = omega (arith, team_below (goal.at.bounds-slots-slot c).In-Step)
+pub bounds-tickets-team : goal.bounds-tickets-team
+bounds-tickets-team c = omega (arith, team_below (goal.at.bounds-tickets-team c).In-Step)
 
-pub offset_bounds-quick-slot : goal.offset_bounds-quick-slot
-offset_bounds-quick-slot c = omega (arith, team_below (goal.at.offset_bounds-quick-slot c).In-Step)
+pub offset_bounds-quick-team : goal.offset_bounds-quick-team
+offset_bounds-quick-team c = omega (arith, team_below (goal.at.offset_bounds-quick-team c).In-Step)
 
-pub bounds-quick-slot : goal.bounds-quick-slot
-bounds-quick-slot c = omega (arith, team_below (goal.at.bounds-quick-slot c).In-Step)
+pub bounds-quick-team : goal.bounds-quick-team
+bounds-quick-team c = omega (arith, team_below (goal.at.bounds-quick-team c).In-Step)
 
 pub try_quick-tried-requires : goal.try_quick-tried-requires
 try_quick-tried-requires c =
     ((step_turn (goal.at.try_quick-tried-requires c).In-Step).goes.book, team_below (goal.at.try_quick-tried-requires c).In-Step, quick_at (step_turn (goal.at.try_quick-tried-requires c).In-Step) (team_at (goal.at.try_quick-tried-requires c).In-Step) refl (quick_list (goal.at.try_quick-tried-requires c).In-Step) (quick_kept (goal.at.try_quick-tried-requires c).In-Step))
 
-pub offset_bounds-slots-slot-in-Step : goal.offset_bounds-slots-slot-in-Step
-offset_bounds-slots-slot-in-Step c = omega (arith, team_below (goal.at.offset_bounds-slots-slot-in-Step c).In-Step)
-
-pub bounds-slots-slot-in-Step : goal.bounds-slots-slot-in-Step
-bounds-slots-slot-in-Step c = omega (arith, team_below (goal.at.bounds-slots-slot-in-Step c).In-Step)
-
 pub advanced-after-requires : goal.advanced-after-requires
 advanced-after-requires c =
     let point = (goal.at.advanced-after-requires c).In-Step in
     (says (step_turn point) (team_at point) refl (quick_list point) (quick_kept point) c.try_quick-tried.result c.try_quick-tried.new.book (book_whole (goal.at.advanced-after-requires c).After-slice_known-in-Step-1) c.try_quick-tried.ensures).advances c.in-Went.claims c.in-Went.is
-
-pub offset_bounds-slots-slot-in-Went : goal.offset_bounds-slots-slot-in-Went
-offset_bounds-slots-slot-in-Went c = omega (arith, team_below (goal.at.offset_bounds-slots-slot-in-Went c).In-Step)
-
-pub bounds-slots-slot-in-Went : goal.bounds-slots-slot-in-Went
-bounds-slots-slot-in-Went c = omega (arith, team_below (goal.at.bounds-slots-slot-in-Went c).In-Step)
 
 pub put_told-filled-requires : goal.put_told-filled-requires
 put_told-filled-requires c = step_room (goal.at.put_told-filled-requires c).In-Step
@@ -198,19 +184,13 @@ other_step-left-requires c =
     let point = (goal.at.other_step-left-requires c).In-Step in
     let told = says (step_turn point) (team_at point) refl (quick_list point) (quick_kept point) c.try_quick-tried.result c.try_quick-tried.new.book (book_whole (goal.at.other_step-left-requires c).After-slice_known-in-Step-1) c.try_quick-tried.ensures in
     let fast = quick_at (step_turn point) (team_at point) refl (quick_list point) (quick_kept point) in
-    (book_whole (goal.at.other_step-left-requires c).After-slice_known-in-Step-1, team_below point, (λ found missed. record { team_known = team_below point; claiming = told.claiming found missed; made = (fast (told.few_missed found missed)).made; room_at = step_room point }), slot_known_made (step_turn point), step_room point)
+    (book_whole (goal.at.other_step-left-requires c).After-slice_known-in-Step-1, team_below point, (λ found missed. record { claiming = told.claiming found missed; made = (fast (told.few_missed found missed)).made; room_at = step_room point }), slot_known_made (step_turn point), step_room point)
 
-pub offset_bounds-slots-slot-in-Step-2 : goal.offset_bounds-slots-slot-in-Step-2
-offset_bounds-slots-slot-in-Step-2 c = omega (arith, team_below (goal.at.offset_bounds-slots-slot-in-Step-2 c).In-Step)
+pub offset_bounds-quick-team-in-Step : goal.offset_bounds-quick-team-in-Step
+offset_bounds-quick-team-in-Step c = omega (arith, team_below (goal.at.offset_bounds-quick-team-in-Step c).In-Step)
 
-pub bounds-slots-slot-in-Step-2 : goal.bounds-slots-slot-in-Step-2
-bounds-slots-slot-in-Step-2 c = omega (arith, team_below (goal.at.bounds-slots-slot-in-Step-2 c).In-Step)
-
-pub offset_bounds-quick-slot-in-Step : goal.offset_bounds-quick-slot-in-Step
-offset_bounds-quick-slot-in-Step c = omega (arith, team_below (goal.at.offset_bounds-quick-slot-in-Step c).In-Step)
-
-pub bounds-quick-slot-in-Step : goal.bounds-quick-slot-in-Step
-bounds-quick-slot-in-Step c = omega (arith, team_below (goal.at.bounds-quick-slot-in-Step c).In-Step)
+pub bounds-quick-team-in-Step : goal.bounds-quick-team-in-Step
+bounds-quick-team-in-Step c = omega (arith, team_below (goal.at.bounds-quick-team-in-Step c).In-Step)
 
 pub loop-next-smaller-in-Step : goal.loop-next-smaller-in-Step
 loop-next-smaller-in-Step c = let inside = (step_inside (goal.at.loop-next-smaller-in-Step c).In-Step).0.inside in omega (arith, inside)
@@ -229,8 +209,8 @@ slice_bounds-frame-end c = (other_inside (goal.at.slice_bounds-frame-end c).In-O
 pub overflow_add-at-in-Other : goal.overflow_add-at-in-Other
 overflow_add-at-in-Other c = omega (arith, (other_inside (goal.at.overflow_add-at-in-Other c).In-Other).inside)
 
-pub slot_of-slot-requires : goal.slot_of-slot-requires
-slot_of-slot-requires c = slot_known (frame_at c.args.input.now c.loop-next.at (size_at (goal.at.slot_of-slot-requires c).In-Other)) (aim_numbered c.aim_of-aim.result) c.aim_of-aim.ensures.1
+pub slot_of-team-requires : goal.slot_of-team-requires
+slot_of-team-requires c = slot_known (frame_at c.args.input.now c.loop-next.at (size_at (goal.at.slot_of-team-requires c).In-Other)) (aim_numbered c.aim_of-aim.result) c.aim_of-aim.ensures.1
 
 pub other_frame-left-requires : goal.other_frame-left-requires
 other_frame-left-requires c =
@@ -242,7 +222,7 @@ loop-next-smaller-in-Some c = let ahead = other_inside (goal.at.loop-next-smalle
 
 pub loop-next-preserved-in-Some : goal.loop-next-preserved-in-Some
 loop-next-preserved-in-Some c =
-    let slot = c.slot_of-slot in
+    let slot = c.slot_of-team in
     let frame = c.other_frame-left in
     let loop = c.loop-next in
     opened_on (other_turn (goal.at.loop-next-preserved-in-Some c).In-Other (aim_numbered c.aim_of-aim.result) c.aim_of-aim.ensures) (no_step (goal.at.loop-next-preserved-in-Some c).In-Other (aim_numbered c.aim_of-aim.result) c.aim_of-aim.ensures) loop.quick loop.invariant.1 slot.result slot.ensures.0 frame.result _ _ frame.ensures
@@ -253,7 +233,7 @@ loop-next-smaller c = let ahead = other_inside (goal.at.loop-next-smaller c).In-
 
 pub loop-next-preserved : goal.loop-next-preserved
 loop-next-preserved c =
-    let slot = c.slot_of-slot in
+    let slot = c.slot_of-team in
     let frame = c.other_frame-left in
     let loop = c.loop-next in
-    (unopened_on (other_turn (goal.at.loop-next-preserved c).In-Other (aim_numbered c.aim_of-aim.result) c.aim_of-aim.ensures) (no_step (goal.at.loop-next-preserved c).In-Other (aim_numbered c.aim_of-aim.result) c.aim_of-aim.ensures) loop.quick loop.invariant.1 slot.result slot.ensures.0 frame.result _ _ frame.ensures c.in_default-ticket.is, loop.invariant.1)
+    unopened_on (other_turn (goal.at.loop-next-preserved c).In-Other (aim_numbered c.aim_of-aim.result) c.aim_of-aim.ensures) (no_step (goal.at.loop-next-preserved c).In-Other (aim_numbered c.aim_of-aim.result) c.aim_of-aim.ensures) loop.quick loop.invariant.1 slot.result slot.ensures.0 frame.result _ _ frame.ensures c.in_default-ticket.is slot.ensures.1

@@ -35,17 +35,17 @@ returns-then-out-lt-LONGEST-clause-all c =
 pub returns-then-out-lt-LONGEST-clause-refusal : goal.returns-then-out-lt-LONGEST-clause-refusal
 returns-then-out-lt-LONGEST-clause-refusal c = ap (λ w. refusal_in (numbered w)) c.turned_away-then-out-lt-LONGEST.ensures.0 ∙ returns_2 c.args.book.now c.args.ranks.now c.args.out.now c.if-book-ne-WORDS.false (sym c.is_permutation.ensures ∙ c.if-not-is_permutation.false) c.if-out-lt-LONGEST.true
 
-pub slot_of-slot-requires : goal.slot_of-slot-requires
-slot_of-slot-requires c = slot_known c.args.frame.now (aim_numbered c.aim_of-aim.result) c.aim_of-aim.ensures.1
+pub slot_of-team-requires : goal.slot_of-team-requires
+slot_of-team-requires c = slot_known c.args.frame.now (aim_numbered c.aim_of-aim.result) c.aim_of-aim.ensures.1
 
 pub answer-left-requires : goal.answer-left-requires
-answer-left-requires c = (c.if-book-ne-WORDS.false, c.aim_of-aim.ensures.1, c.slot_of-slot.ensures.0, record { inside = omega arith; room = omega (arith, c.if-out-lt-LONGEST.false) })
+answer-left-requires c = (c.if-book-ne-WORDS.false, c.aim_of-aim.ensures.1, c.slot_of-team.ensures.0, record { inside = omega arith; room = omega (arith, c.if-out-lt-LONGEST.false) })
 
 pub returns-clause-all : goal.returns-clause-all
 returns-clause-all c =
     let aim = c.aim_of-aim in
-    let slot = c.slot_of-slot in
-    answered_call c.args.book.now c.args.tickets c.args.ranks.now c.args.frame.now c.args.out.now (aim_numbered aim.result) slot.result _ _ _ _ _ aim.ensures.0 slot.ensures.0 c.answer-left.ensures.left c.answer-left.ensures.others
+    let team = c.slot_of-team in
+    answered_call c.args.book.now c.args.tickets c.args.ranks.now c.args.frame.now c.args.out.now (aim_numbered aim.result) team.result _ _ _ _ _ aim.ensures.0 team.ensures.0 c.answer-left.ensures
     c.if-book-ne-WORDS.false (sym c.is_permutation.ensures ∙ c.if-not-is_permutation.false) c.if-out-lt-LONGEST.false
 
 pub returns-clause-refusal : goal.returns-clause-refusal

@@ -35,37 +35,37 @@ as_lent c = λ i. carry_of (c.in-Some.ensures.cases.same i) (c.in-Some-as_mut_ar
 pub returns-then-any_stands : goal.returns-then-any_stands
 returns-then-any_stands c =
     let lent = (goal.at.returns-then-any_stands c).In-Some-as_mut_array in
-    refused_14 c.in-Some.old.now c.in-Some-as_mut_array.second.now (table_of c.args.tickets) (whole lent) (sym (c.any_stands.ensures c.args.tickets.targets) ∙ c.if-any_stands.true)
+    refused_14 c.in-Some.old.now c.in-Some-as_mut_array.second.now (table_of c.args.tickets) (whole lent) (sym c.any_stands.ensures ∙ c.if-any_stands.true)
     ∙ as_lent lent
 
-pub returns-then-not-is_sound_old : goal.returns-then-not-is_sound_old
-returns-then-not-is_sound_old c =
-    let lent = (goal.at.returns-then-not-is_sound_old c).In-Some-as_mut_array in
-    let none = sym (c.any_stands.ensures c.args.tickets.targets) ∙ c.if-any_stands.false in
-    refused_15 c.in-Some.old.now c.in-Some-as_mut_array.second.now (table_of c.args.tickets) (whole lent) none (sym c.is_sound_old.ensures ∙ c.if-not-is_sound_old.true)
+pub returns-then-not-is_plain : goal.returns-then-not-is_plain
+returns-then-not-is_plain c =
+    let lent = (goal.at.returns-then-not-is_plain c).In-Some-as_mut_array in
+    let none = sym c.any_stands.ensures ∙ c.if-any_stands.false in
+    refused_15 c.in-Some.old.now c.in-Some-as_mut_array.second.now (table_of c.args.tickets) (whole lent) none (sym c.is_plain.ensures ∙ c.if-not-is_plain.true)
     ∙ as_lent lent
 
 pub has_leg_above-requires : goal.has_leg_above-requires
-has_leg_above-requires c = sym c.is_sound_old.ensures ∙ c.if-not-is_sound_old.false
+has_leg_above-requires c = sym c.is_plain.ensures ∙ c.if-not-is_plain.false
 
 pub returns-then-has_leg_above : goal.returns-then-has_leg_above
 returns-then-has_leg_above c =
     let lent = (goal.at.returns-then-has_leg_above c).In-Some-as_mut_array in
-    let none = sym (c.any_stands.ensures c.args.tickets.targets) ∙ c.if-any_stands.false in
-    let sound = sym c.is_sound_old.ensures ∙ c.if-not-is_sound_old.false in
+    let none = sym c.any_stands.ensures ∙ c.if-any_stands.false in
+    let sound = sym c.is_plain.ensures ∙ c.if-not-is_plain.false in
     refused_16 c.in-Some.old.now c.in-Some-as_mut_array.second.now (table_of c.args.tickets) (whole lent) none sound (sym c.has_leg_above.ensures ∙ c.if-has_leg_above.true)
     ∙ as_lent lent
 
 pub set_newers-requires : goal.set_newers-requires
 set_newers-requires c =
-    old_links_fit c.in-Some.old.now (sym c.is_sound_old.ensures ∙ c.if-not-is_sound_old.false) (sym c.has_leg_above.ensures ∙ c.if-has_leg_above.false)
+    old_links_fit c.in-Some.old.now (sym c.is_plain.ensures ∙ c.if-not-is_plain.false) (sym c.has_leg_above.ensures ∙ c.if-has_leg_above.false)
 
 pub returns : goal.returns
 returns c =
     let lent = (goal.at.returns c).In-Some-as_mut_array in
     let old = c.in-Some.old.now in
-    let none = sym (c.any_stands.ensures c.args.tickets.targets) ∙ c.if-any_stands.false in
-    let sound = sym c.is_sound_old.ensures ∙ c.if-not-is_sound_old.false in
+    let none = sym c.any_stands.ensures ∙ c.if-any_stands.false in
+    let sound = sym c.is_plain.ensures ∙ c.if-not-is_plain.false in
     let fits = sym c.has_leg_above.ensures ∙ c.if-has_leg_above.false in
     (λ i. (Ok tt, (c.set_newers.ensures ∙ ap (newers_set old last_leg) c.move_words.ensures ∙ old_written old sound fits) i))
     ∙ done_by_lem old c.in-Some-as_mut_array.second.now (table_of c.args.tickets) (whole lent) none sound fits

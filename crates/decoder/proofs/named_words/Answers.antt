@@ -15,5 +15,5 @@ loop-k-init c = refl
 pub loop-k-preserved : goal.loop-k-preserved
 loop-k-preserved c =
     let k = c.loop-k.k in
-    let word = c.read16.result in
-    ap (λ (l : List ℕ). set l k word) c.loop-k.invariant ∙ word_read c.args.part.now k word (omega arith) c.read16.ensures.0
+    let word = c.from.result in
+    ap (λ (l : List ℕ). set l k word) c.loop-k.invariant ∙ word_read c.args.part.now k word (omega arith) (c.from.ensures ∙ c.read16.ensures.0)

@@ -1,5 +1,4 @@
 -- `decoder::read_move` meets its contract: the first field out of range is some field out of range, and then the repeats are tested.
-use Rattle.std.specs.Prelude.{Some, None}
 use borrow.Author.Tests.{eq-eqb, ne_eqb}
 use mathlib.Core.Path.{◌≡◌, sym, ◌∙◌}
 use mathlib.Core.Bool.{true, true≢false}
@@ -8,7 +7,7 @@ use Rattle.edits.specs.Ranges.{edit_in_range}
 use mathlib.Core.Logic.{⊎_elim}
 use Rattle.frames.specs.Requests.{move_in, taken_at}
 use Rattle.frames.proofs.Ranges.{first_of, next_of, none_of}
-use Rattle.decoder.proofs.Answered.{field_out}
+use Rattle.decoder.proofs.Answered.{up_to, field_out}
 use Rattle.decoder.proofs.Decoded.{refused_10, refused_11, read_as_lem, move_fits, move_decoded, move_repeats}
 use Rattle.decoder.proofs.read_move.Goals as goal
 use Rattle.decoder.proofs.read_move.Goals.{After-stations_at-stations}
@@ -22,8 +21,8 @@ read_edit c = Edit.Move (record {
   leg = c.in-Some-taken_field.taken.leg;
   older = c.in-Some-taken_field.taken.older;
   count = c.in-Some-taken_field.taken.count;
-  into_newest = c.in-Some-field_up_to.newest;
-  into_count = c.in-Some-field_up_to-2.count;
+  into_newest = c.in-Some-field.newest;
+  into_count = c.in-Some-field-2.count;
   stations = c.stations_at-stations.result;
 })
 
@@ -33,8 +32,8 @@ all_in_range c =
     (sym c.passage_field.ensures ∙ c.in-Some.is)
     (sym c.passage_field-2.ensures ∙ c.in-Some-passage_field.is)
     (sym c.taken_field.ensures ∙ c.in-Some-taken_field.is)
-    (sym c.field_up_to.ensures ∙ c.in-Some-field_up_to.is)
-    (sym c.field_up_to-2.ensures ∙ c.in-Some-field_up_to-2.is)
+    (up_to c.new.result _ _ c.new.ensures.start c.new.ensures.end c.new.ensures.exhausted ∙ sym c.field.ensures ∙ c.in-Some-field.is)
+    (up_to c.new-2.result _ _ c.new-2.ensures.start c.new-2.ensures.end c.new-2.ensures.exhausted ∙ sym c.field-2.ensures ∙ c.in-Some-field-2.is)
     c.stations_at-stations.ensures
 
 pub returns-in_default : goal.returns-in_default
@@ -55,17 +54,17 @@ returns-in_default-taken_field c = let part = c.args.part.now in
     refused_10 (Edit.Move (move_in part))
     (λ h. true≢false (sym (move_fits (move_in part) h).taken ∙ field_out _ (taken_at part 6) (sym c.taken_field.ensures ∙ c.in_default-taken_field.is)))
 
-pub returns-in_default-field_up_to : goal.returns-in_default-field_up_to
+pub returns-in_default-field : goal.returns-in_default-field
 unfolding move_in
-returns-in_default-field_up_to c = let part = c.args.part.now in
+returns-in_default-field c = let part = c.args.part.now in
     refused_10 (Edit.Move (move_in part))
-    (λ h. true≢false (sym (move_fits (move_in part) h).newest ∙ field_out _ _ (sym c.field_up_to.ensures ∙ c.in_default-field_up_to.is)))
+    (λ h. true≢false (sym (move_fits (move_in part) h).newest ∙ field_out _ _ (up_to c.new.result _ _ c.new.ensures.start c.new.ensures.end c.new.ensures.exhausted ∙ sym c.field.ensures ∙ c.in_default-field.is)))
 
-pub returns-in_default-field_up_to-2 : goal.returns-in_default-field_up_to-2
+pub returns-in_default-field-2 : goal.returns-in_default-field-2
 unfolding move_in
-returns-in_default-field_up_to-2 c = let part = c.args.part.now in
+returns-in_default-field-2 c = let part = c.args.part.now in
     refused_10 (Edit.Move (move_in part))
-    (λ h. true≢false (sym (move_fits (move_in part) h).count ∙ field_out _ _ (sym c.field_up_to-2.ensures ∙ c.in_default-field_up_to-2.is)))
+    (λ h. true≢false (sym (move_fits (move_in part) h).count ∙ field_out _ _ (up_to c.new-2.result _ _ c.new-2.ensures.start c.new-2.ensures.end c.new-2.ensures.exhausted ∙ sym c.field-2.ensures ∙ c.in_default-field-2.is)))
 
 pub returns-then-stations : goal.returns-then-stations
 returns-then-stations c =

@@ -1,5 +1,4 @@
 -- `decoder::read_strike` meets its contract: the first field out of range is some field out of range, and then the repeats are tested.
-use Rattle.std.specs.Prelude.{Some, None}
 use borrow.Author.Tests.{eq-eqb, ne_eqb}
 use mathlib.Core.Path.{sym, ◌∙◌}
 use mathlib.Core.Bool.{true≢false}

@@ -3,4 +3,4 @@ use Rattle.handlers.proofs.Cases.{known_passes}
 use Rattle.handlers.proofs.known_well_made.Goals as goal
 
 pub returns-then-known : goal.returns-then-known
-returns-then-known c = known_passes _ (c.requires.1 c.if-known.true)
+returns-then-known c = known_passes _ (c.requires c.if-known.true)

@@ -9,7 +9,7 @@ use Rattle.handlers.proofs.open_edit.Goals as goal
 
 pub open-n-requires : goal.open-n-requires
 open-n-requires c =
-    (c.requires.0, read_allowed (kind_number c.args.kind) c.args.part.now _ (sym c.read_edit.ensures ∙ ap numbered c.in-Ok.is))
+    read_allowed (kind_number c.args.kind) c.args.part.now _ (sym c.read_edit.ensures ∙ ap numbered c.in-Ok.is)
 
 pub returns-in-Ok : goal.returns-in-Ok
 returns-in-Ok c =
@@ -17,16 +17,16 @@ returns-in-Ok c =
     let put = c.put-filled in
     let is = sym (ap numbered c.in-Ok.is) ∙ c.read_edit.ensures in
     λ ticket.
-    left_opened _ c.args.targets.now _ c.args.slot ticket c.edit.result _ _ _ _ _ _ refl
-    (edit_opened (gathered c.args.targets.now c.args.slot ticket) _ c.args.ranks.now _ _ (ap (gathered _ c.args.slot) c.edit.ensures ∙ opened.ensures.opened.1) opened.ensures.opened.0
-    ∙ ap (open_settled (gathered c.args.targets.now c.args.slot ticket) c.args.ranks.now) is)
-    opened.ensures.others put.ensures
+    left_opened _ c.args.targets.now _ ticket c.edit.result _ _ _ _ _ _ refl
+    (edit_opened (gathered c.args.targets.now ticket) _ c.args.ranks.now _ _ (ap (gathered _) c.edit.ensures ∙ opened.ensures.1) opened.ensures.0
+    ∙ ap (open_settled (gathered c.args.targets.now ticket) c.args.ranks.now) is)
+    put.ensures
 
 pub returns-in-Err : goal.returns-in-Err
 returns-in-Err c =
     let put = c.put_refused-filled in
     let is = sym (ap numbered c.in-Err.is) ∙ c.read_edit.ensures in
     λ ticket.
-    left_unopened _ c.args.targets.now c.args.slot ticket c.unopened.result _ _ _ _ _ c.unopened.ensures
-    (edit_refused (gathered c.args.targets.now c.args.slot ticket) c.args.ranks.now _ ∙ ap (open_settled (gathered c.args.targets.now c.args.slot ticket) c.args.ranks.now) is)
+    left_unopened _ c.args.targets.now ticket c.unopened.result _ _ _ _ _ c.unopened.ensures
+    (edit_refused (gathered c.args.targets.now ticket) c.args.ranks.now _ ∙ ap (open_settled (gathered c.args.targets.now ticket) c.args.ranks.now) is)
     put.ensures

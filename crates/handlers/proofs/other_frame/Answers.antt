@@ -21,19 +21,19 @@ pub returns-in-Err : goal.returns-in-Err
 returns-in-Err c =
     let targets = c.args.targets.now in
     aimed_so c.args.book.now targets c.args.ranks.now c.args.frame.now c.args.ticket (ap aim_numbered c.in-Err.is)
-    (left_unopened _ targets 0 c.args.ticket c.unopened.result _ _ _ _ _ c.unopened.ensures
-    (refused_by c.args.book.now (gathered targets 0 c.args.ticket) c.args.ranks.now c.args.frame.now _) c.put_refused-filled.ensures)
+    (left_unopened _ targets c.args.ticket c.unopened.result _ _ _ _ _ c.unopened.ensures
+    (refused_by c.args.book.now (gathered targets c.args.ticket) c.args.ranks.now c.args.frame.now _) c.put_refused-filled.ensures)
 
 pub returns-in-Look : goal.returns-in-Look
 returns-in-Look c =
     let targets = c.args.targets.now in
     aimed_so c.args.book.now targets c.args.ranks.now c.args.frame.now c.args.ticket (ap aim_numbered c.in-Ok.is ∙ ap (λ a. Ok (aimed a)) c.in-Look.is)
-    (left_unopened _ targets 0 c.args.ticket c.unopened-in-Look.result _ _ _ _ _ c.unopened-in-Look.ensures
-    (look_by c.args.book.now (gathered targets 0 c.args.ticket) c.args.ranks.now c.args.frame.now) c.put_look-filled.ensures)
+    (left_unopened _ targets c.args.ticket c.unopened-in-Look.result _ _ _ _ _ c.unopened-in-Look.ensures
+    (look_by c.args.book.now (gathered targets c.args.ticket) c.args.ranks.now c.args.frame.now) c.put_look-filled.ensures)
 
 pub returns-in-Team : goal.returns-in-Team
 returns-in-Team c =
     let targets = c.args.targets.now in
     let is = ap aim_numbered c.in-Ok.is ∙ ap (λ a. Ok (aimed a)) c.in-Team.is in
     aimed_so c.args.book.now targets c.args.ranks.now c.args.frame.now c.args.ticket is
-    (settled_so (sym (ap (λ (r : Settled × Words). r.0) (open_by_lem c.args.book.now (gathered targets _ c.args.ticket) c.args.ranks.now c.args.frame.now _ _ (subst NoStep is c.requires.2)))) c.«open».ensures)
+    (settled_so (sym (ap (λ (r : Settled × Words). r.0) (open_by_lem c.args.book.now (gathered targets c.args.ticket) c.args.ranks.now c.args.frame.now _ _ (subst NoStep is c.requires.2)))) c.«open».ensures)

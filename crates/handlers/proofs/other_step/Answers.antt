@@ -5,7 +5,7 @@ use mathlib.Core.Bool.{true, false}
 use Rattle.tickets.specs.Table.{gathered}
 use Rattle.claiming.specs.Missing.{MissLeft}
 use Rattle.quick.proofs.Trying.{missed_word}
-use Rattle.handlers.proofs.Cases.{stands_has, stands_not, passes_made, steps_none, steps_badly, step_refused, step_left, same_there}
+use Rattle.handlers.proofs.Cases.{stands_has, stands_not, passes_made, steps_none, steps_badly, step_refused, step_left}
 use borrow.Author.Rules.{rules}
 use Rattle.handlers.proofs.other_step.Goals as goal
 
@@ -16,9 +16,8 @@ pub returns-in-Missed : goal.returns-in-Missed
 returns-in-Missed c =
     let targets = c.args.targets.now in
     record {
-      others = same_there targets c.args.slot;
       whole = refl;
-      missed = λ found missed. (refl, refl, subst (λ (w : ℕ). MissLeft targets c.args.slot c.args.ticket w c.missed.result.ticket c.args.out.now c.args.at c.missed.result.filled c.missed.new.out) (missed_word (sym c.in-Missed.is ∙ missed)) c.missed.ensures);
+      missed = λ found missed. (refl, refl, subst (λ (w : ℕ). MissLeft targets c.args.ticket w c.missed.result.ticket c.args.out.now c.args.at c.missed.result.filled c.missed.new.out) (missed_word (sym c.in-Missed.is ∙ missed)) c.missed.ensures);
       made = λ none. absurd (none c.in-Missed.found c.in-Missed.is);
     }
 
@@ -27,10 +26,9 @@ returns-then-not-stands c =
     let targets = c.args.targets.now in
     let book = c.args.book.now in
     record {
-      others = same_there targets c.args.slot;
       whole = refl;
       missed = λ found missed. absurd (c.in_default.not-Missed found missed);
-      made = λ none. step_refused book targets c.args.slot c.args.ticket _ 9 _ _ _ _ c.refuse.ensures.0 (steps_none book (gathered targets c.args.slot c.args.ticket) c.args.slot (stands_not targets c.args.slot c.args.ticket (sym c.stands.ensures ∙ c.if-not-stands.true))) c.refuse.ensures.1;
+      made = λ none. step_refused book targets c.args.team c.args.ticket _ 9 _ _ _ _ c.refuse.ensures.0 (steps_none book (gathered targets c.args.ticket) c.args.team (stands_not targets c.args.ticket (sym c.stands.ensures ∙ c.if-not-stands.true))) c.refuse.ensures.1;
     }
 
 pub returns-then-not-known_well_made : goal.returns-then-not-known_well_made
@@ -38,10 +36,9 @@ returns-then-not-known_well_made c =
     let targets = c.args.targets.now in
     let book = c.args.book.now in
     record {
-      others = same_there targets c.args.slot;
       whole = refl;
       missed = λ found missed. absurd (c.in_default.not-Missed found missed);
-      made = λ none. step_refused book targets c.args.slot c.args.ticket _ 7 _ _ _ _ c.refuse-then-not-known_well_made.ensures.0 (let stands = sym c.stands.ensures ∙ c.if-not-stands.false in steps_badly book (gathered targets c.args.slot c.args.ticket) c.args.slot (stands_has targets c.args.slot c.args.ticket stands) (passes_made targets c.args.slot c.args.ticket false stands (sym c.known_well_made.ensures ∙ c.if-not-known_well_made.true))) c.refuse-then-not-known_well_made.ensures.1;
+      made = λ none. step_refused book targets c.args.team c.args.ticket _ 7 _ _ _ _ c.refuse-then-not-known_well_made.ensures.0 (let stands = sym c.stands.ensures ∙ c.if-not-stands.false in steps_badly book (gathered targets c.args.ticket) c.args.team (stands_has targets c.args.ticket stands) (passes_made targets c.args.ticket false stands (sym c.known_well_made.ensures ∙ c.if-not-known_well_made.true))) c.refuse-then-not-known_well_made.ensures.1;
     }
 
 pub step-requires : goal.step-requires
@@ -51,7 +48,7 @@ step-requires c =
     record {
       book = c.requires.0;
       team_known = c.requires.1;
-      made = passes_made targets c.args.slot c.args.ticket true stands (sym c.known_well_made.ensures ∙ c.if-not-known_well_made.false);
+      made = passes_made targets c.args.ticket true stands (sym c.known_well_made.ensures ∙ c.if-not-known_well_made.false);
       inside = c.requires.4.inside;
       room = c.requires.4.room;
     }
@@ -61,10 +58,9 @@ returns c =
     let targets = c.args.targets.now in
     let book = c.args.book.now in
     let stands = sym c.stands.ensures ∙ c.if-not-stands.false in
-    let made = passes_made targets c.args.slot c.args.ticket true stands (sym c.known_well_made.ensures ∙ c.if-not-known_well_made.false) in
+    let made = passes_made targets c.args.ticket true stands (sym c.known_well_made.ensures ∙ c.if-not-known_well_made.false) in
     record {
-      others = c.step.ensures.others;
       whole = search rules;
       missed = λ found missed. absurd (c.in_default.not-Missed found missed);
-      made = λ none. step_left book targets _ c.args.slot c.args.ticket _ _ _ _ _ _ (stands_has targets c.args.slot c.args.ticket stands) made c.step.ensures.left;
+      made = λ none. step_left book targets _ c.args.team c.args.ticket _ _ _ _ _ _ (stands_has targets c.args.ticket stands) made c.step.ensures;
     }

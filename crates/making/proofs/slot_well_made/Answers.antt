@@ -6,9 +6,9 @@ use Rattle.making.proofs.slot_well_made.Goals as goal
 pub returns-then-stands : goal.returns-then-stands
 returns-then-stands c =
     let args = c.args in
-    c.well_made.ensures ∙ sym (passes_by args.targets.now args.slot args.ticket _ (sym c.if-stands.true ∙ c.stands.ensures))
+    c.well_made.ensures ∙ sym (passes_by args.targets.now args.ticket _ (sym c.if-stands.true ∙ c.stands.ensures))
 
 pub returns : goal.returns
 returns c =
     let args = c.args in
-    sym (passes_by args.targets.now args.slot args.ticket _ (sym c.if-stands.false ∙ c.stands.ensures))
+    sym (passes_by args.targets.now args.ticket _ (sym c.if-stands.false ∙ c.stands.ensures))

@@ -7,7 +7,7 @@ use Rattle.quick.proofs.try_quick.Goals as goal
 pub returns-then-quick-ticket : goal.returns-then-quick-ticket
 returns-then-quick-ticket c =
     let args = c.args in
-    sym (not_tried args.book.now args.targets.now args.slot args.ticket args.quick c.if-quick-ticket.true)
+    sym (not_tried args.book.now args.targets.now args.team args.ticket args.quick c.if-quick-ticket.true)
 
 pub swap_at-swap-requires : goal.swap_at-swap-requires
 swap_at-swap-requires c =
@@ -19,7 +19,7 @@ returns-then-found-swap c =
     let few = c.if-quick-ticket.false in
     let args = c.args in
     let words = args.book.now in
-    tried_by words args.targets.now args.slot args.ticket args.quick swap.result c.conditional_swap-report.result.found c.conditional_swap-report.new.book _
+    tried_by words args.targets.now args.team args.ticket args.quick swap.result c.conditional_swap-report.result.found c.conditional_swap-report.new.book _
     (omega (arith, few)) (swap.ensures.0 words) c.conditional_swap-report.ensures.found c.conditional_swap-report.ensures.words (went_same _ _ c.if-found-swap.true)
 
 pub returns-then-is_held : goal.returns-then-is_held
@@ -28,7 +28,7 @@ returns-then-is_held c =
     let few = c.if-quick-ticket.false in
     let args = c.args in
     let words = args.book.now in
-    tried_by words args.targets.now args.slot args.ticket args.quick swap.result c.conditional_swap-report.result.found c.conditional_swap-report.new.book _
+    tried_by words args.targets.now args.team args.ticket args.quick swap.result c.conditional_swap-report.result.found c.conditional_swap-report.new.book _
     (omega (arith, few)) (swap.ensures.0 words) c.conditional_swap-report.ensures.found c.conditional_swap-report.ensures.words (sym c.if-is_held.true ∙ c.is_held.ensures ∙ went_other _ _ c.if-found-swap.false)
 
 pub returns : goal.returns
@@ -37,5 +37,5 @@ returns c =
     let few = c.if-quick-ticket.false in
     let args = c.args in
     let words = args.book.now in
-    tried_by words args.targets.now args.slot args.ticket args.quick swap.result c.conditional_swap-report.result.found c.conditional_swap-report.new.book _
+    tried_by words args.targets.now args.team args.ticket args.quick swap.result c.conditional_swap-report.result.found c.conditional_swap-report.new.book _
     (omega (arith, few)) (swap.ensures.0 words) c.conditional_swap-report.ensures.found c.conditional_swap-report.ensures.words (sym c.if-is_held.false ∙ c.is_held.ensures ∙ went_other _ _ c.if-found-swap.false)

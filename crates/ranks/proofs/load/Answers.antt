@@ -21,7 +21,7 @@ returns-then-not-is_permutation c =
 pub returns-then-any_stands : goal.returns-then-any_stands
 returns-then-any_stands c =
     sym (load_is c.args.book.now (table_of c.args.tickets) c.args.ranks.now c.args.loaded.now false true true (book_right c.args.book.now (omega (arith, c.if-book-ne-WORDS.false)))
-    (sym c.is_permutation.ensures ∙ c.if-not-is_permutation.false) (sym (c.any_stands.ensures c.args.tickets.targets) ∙ c.if-any_stands.true))
+    (sym c.is_permutation.ensures ∙ c.if-not-is_permutation.false) (sym c.any_stands.ensures ∙ c.if-any_stands.true))
 
 pub copy_from_slice-requires : goal.copy_from_slice-requires
 copy_from_slice-requires c =
@@ -31,4 +31,4 @@ pub returns : goal.returns
 returns c =
     (λ i. (Ok tt, c.copy_from_slice.ensures.after i))
     ∙ sym (load_is c.args.book.now (table_of c.args.tickets) c.args.ranks.now c.args.loaded.now false true false (book_right c.args.book.now (omega (arith, c.if-book-ne-WORDS.false)))
-    (sym c.is_permutation.ensures ∙ c.if-not-is_permutation.false) (sym (c.any_stands.ensures c.args.tickets.targets) ∙ c.if-any_stands.false))
+    (sym c.is_permutation.ensures ∙ c.if-not-is_permutation.false) (sym c.any_stands.ensures ∙ c.if-any_stands.false))

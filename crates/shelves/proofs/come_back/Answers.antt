@@ -1,30 +1,58 @@
 -- `shelves::come_back` meets its contract: by its checks, refused or come back.
 use Rattle.std.specs.Prelude.{Ok}
 use Rattle.std.proofs.lemmas.Result.{err_from_is_err_and}
-use mathlib.Core.Path.{◌≡◌, ap, ◌∙◌}
-use Rattle.calls.specs.Outcomes.{outcome_of}
-use Rattle.calls.specs.Shelves.{back_refusal}
+use mathlib.Core.Path.{◌≡◌, sym, ap, ◌∙◌}
+use mathlib.Core.Bool.{true, false}
+use Prim.Native.Nat.{ℕ, ◌+◌, ◌-◌, ◌<◌}
+use native.Mathlib.Omega.{arith}
+use lib.ListN.{length, take, drop}
+use borrow.Author.Rules.{rules}
+use Rattle.words.specs.Words.{words_in_book, shelf_count, words_in_store}
 use Rattle.tickets.specs.Table.{table_of}
-use Rattle.shelves.proofs.Checks.{back_checks, back_refused, back_done, back_right}
+use Rattle.calls.specs.Shelves.{shelf_of}
+use Rattle.shelves.proofs.Checks.{lengths_right, filled_known, back_before, back_refused, back_last, back_done}
 use Rattle.shelves.proofs.come_back.Goals as goal
-use Rattle.shelves.proofs.come_back.Goals.{In_ok-checked}
+use Rattle.shelves.proofs.come_back.Goals.{Else-never_filled}
 
--- The code's checks are the definition's: where they pass,
-passes : (c : In_ok-checked) → Ok tt ≡ outcome_of (back_refusal c.args.book.now (table_of c.args.tickets) c.args.store.now c.args.filled.now c.args.shelf)
-passes c =
-    c.in_ok-checked.ensures
-    ∙ back_checks _ _ _ c.args.shelf c.any_stands-stands.result c.never_filled-shelf_wrong.result (c.any_stands-stands.ensures c.args.tickets.targets) _ c.never_filled-shelf_wrong.ensures
+-- Where every check is passed, the shelf is one, and the lengths are right.
+known : (c : Else-never_filled) → c.args.shelf < shelf_count
+known c = filled_known c.args.filled.now c.args.shelf (sym c.never_filled.ensures ∙ c.if-never_filled.false)
 
--- and where one applies.
+right : (c : Else-never_filled) → (length c.args.book.now ≡ words_in_book) × (length c.args.store.now ≡ words_in_store)
+right c = lengths_right _ (table_of c.args.tickets) _ c.in_ok-checked.ensures
+
 pub returns-in_err-checked : goal.returns-in_err-checked
 returns-in_err-checked c =
     let p = err_from_is_err_and c.from_residual.result c.from_residual.ensures.1 in
-    rw (p.1, p.2) (back_refused _ _ _ _ _ _ (c.in_err-checked.ensures ∙ back_checks _ _ _ c.args.shelf c.any_stands-stands.result c.never_filled-shelf_wrong.result (c.any_stands-stands.ensures c.args.tickets.targets) _ c.never_filled-shelf_wrong.ensures))
+    rw (p.1, p.2) (back_refused _ _ _ _ _ _ (back_before _ _ _ c.args.shelf _ _ c.in_err-checked.ensures))
 
-pub take_from-requires : goal.take_from-requires
-take_from-requires c =
-    let (whole, long, inside) = back_right _ _ _ _ _ (passes (goal.at.take_from-requires c).In_ok-checked) in
-    (long, whole, inside)
+pub returns-then-never_filled : goal.returns-then-never_filled
+returns-then-never_filled c =
+    back_refused _ _ _ _ _ 20 (back_last _ _ _ c.args.shelf c.args.filled.now true (sym c.never_filled.ensures ∙ c.if-never_filled.true) c.in_ok-checked.ensures)
+
+pub shelf_at-at-requires : goal.shelf_at-at-requires
+shelf_at-at-requires c = known (goal.at.shelf_at-at-requires c).Else-never_filled
+
+pub overflow_add-at : goal.overflow_add-at
+overflow_add-at c = omega (arith, known (goal.at.overflow_add-at c).Else-never_filled, c.shelf_at-at.ensures)
+
+pub offset_bounds-store-at : goal.offset_bounds-store-at
+offset_bounds-store-at c = omega (arith, known (goal.at.offset_bounds-store-at c).Else-never_filled, c.shelf_at-at.ensures)
+
+pub slice_bounds-copy_from_slice-end : goal.slice_bounds-copy_from_slice-end
+slice_bounds-copy_from_slice-end c =
+    let at = (goal.at.slice_bounds-copy_from_slice-end c).Else-never_filled in
+    let inside = known at in
+    let long = (right at).1 in
+    search rules
 
 pub returns : goal.returns
-returns c = (λ i. (Ok tt, c.take_from.ensures i)) ∙ back_done _ _ _ _ _ (passes (goal.at.returns c).In_ok-checked)
+returns c =
+    let store = c.args.store.now in
+    let at : ℕ = c.shelf_at-at.result in
+    let size : at + words_in_book - at ≡ words_in_book = omega arith in
+    let kept : c.copy_from_slice.new.self ≡ shelf_of store c.args.shelf =
+    c.copy_from_slice.ensures.after
+    ∙ ap (λ (k : ℕ). take k (drop at store)) size
+    ∙ ap (λ (at : ℕ). take words_in_book (drop at store)) c.shelf_at-at.ensures in
+    (λ i. (Ok tt, kept i)) ∙ back_done _ _ _ _ _ (back_last _ _ _ c.args.shelf c.args.filled.now false (sym c.never_filled.ensures ∙ c.if-never_filled.false) c.in_ok-checked.ensures)

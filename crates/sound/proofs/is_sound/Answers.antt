@@ -25,11 +25,11 @@ pub sum_of_counts-requires : goal.sum_of_counts-requires
 sum_of_counts-requires c =
     counts_fit c.args.layout c.args.book.now c.walk_passages.result _ c.if-not-walk_passages.false c.walk_passages.ensures
 
-pub returns-then-count_ones-sum_of_counts : goal.returns-then-count_ones-sum_of_counts
-returns-then-count_ones-sum_of_counts c =
+pub returns-then-from-sum_of_counts : goal.returns-then-from-sum_of_counts
+returns-then-from-sum_of_counts c =
     let args = c.args in
     sound_uncounted args.layout args.book.now c.walk_passages.result _ c.if-not-walk_passages.false c.walk_passages.ensures
-    (λ equal. c.if-count_ones-sum_of_counts.true (c.count_ones.ensures.0 ∙ equal ∙ sym c.sum_of_counts.ensures))
+    (λ equal. c.if-from-sum_of_counts.true (c.from.ensures ∙ c.count_ones.ensures.0 ∙ equal ∙ sym c.sum_of_counts.ensures))
 
 pub returns : goal.returns
 returns c =

@@ -6,25 +6,20 @@ use mathlib.Core.Bool.{true}
 use borrow.Author.Tests.{leb-true}
 use lib.Dec.{leb}
 use lib.ListN.{length-replicate}
-use Rattle.words.specs.Words.{words_in_book}
-use Rattle.frames.specs.Fields.{longest_frame}
 use Rattle.calls.specs.Stream.{room_for}
 use Rattle.survey.specs.declared.TheConstants.Buffers.{INPUT, OUTPUT}
 use Rattle.survey.proofs.main.Goals as goal
 
 -- Room in buffers, of the lengths `long` and `wide`, by the sizes that they are made with.
-holds_a_frame : {input long : ℕ} → input ≡ long → leb longest_frame input ≡ true → longest_frame ≤ long
-holds_a_frame {input} {long} size test = omega (arith, size, leb-true longest_frame input test)
-
 holds_answers : {input output long wide : ℕ} → input ≡ long → output ≡ wide → leb (room_for input) output ≡ true → room_for long ≤ wide
 holds_answers {input} {output} {long} {wide} size room test = omega (arith, size, room, leb-true (room_for input) output test)
 
 -- The output by the law: a search would count its bytes one by one.
-pub slice_bounds-serve_all-end-4 : goal.slice_bounds-serve_all-end-4
-slice_bounds-serve_all-end-4 c = sym (length-replicate {A = ℕ} _ 0)
+pub slice_bounds-server-end-2 : goal.slice_bounds-server-end-2
+slice_bounds-server-end-2 c = sym (length-replicate {A = ℕ} _ 0)
 
-pub serve_all-requires : goal.serve_all-requires
-serve_all-requires c =
+pub invariant_of-server : goal.invariant_of-server
+invariant_of-server c =
     let input = sym (length-replicate {A = ℕ} INPUT 0) in
     let output = sym (length-replicate {A = ℕ} OUTPUT 0) in
-    (holds_a_frame input refl, sym (length-replicate {A = ℕ} words_in_book 0), holds_answers input output refl)
+    record { roomy = holds_answers input output refl }

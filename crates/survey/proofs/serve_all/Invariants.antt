@@ -3,4 +3,4 @@ use Rattle.frames.specs.Fields.{longest_frame}
 use Rattle.survey.proofs.serve_all.Given as goal
 
 abbrev pub invariant-loop : goal.invariant-loop
-invariant-loop l = l.have < longest_frame
+invariant-loop l = l.server.input.have < longest_frame

@@ -3,4 +3,4 @@ use Rattle.views.proofs.Seeing.{ShownTo}
 use Rattle.views.proofs.values_seen.Given as goal
 
 abbrev pub invariant-loop-k : goal.invariant-loop-k
-invariant-loop-k l = ShownTo l.values (targets_of l.targets l.slot l.n) l.k
+invariant-loop-k l = ShownTo l.values (targets_of l.targets l.n) l.k

@@ -1,6 +1,6 @@
 -- `frames::head::read_header` meets its contract: the tests are made in the order of the refusals.
 use mathlib.Core.Path.{sym, ap, ◌∙◌}
-use Rattle.std.specs.Prelude.{Ok, Err}
+use Rattle.std.specs.Prelude.{Err}
 use Rattle.std.proofs.lemmas.Result.{err_from_is_err_and}
 use Rattle.frames.proofs.Headers.{too_short, too_long, other_count_lem, header_torn, Untorn, header_fits, header_misfits, header_no_kind, step_header}
 use Rattle.frames.specs.Kinds.{kind_number}

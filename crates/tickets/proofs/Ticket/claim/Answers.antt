@@ -3,4 +3,4 @@ use Rattle.tickets.proofs.Gathering.{gathered_claimed}
 use Rattle.tickets.proofs.Ticket.claim.Goals as goal
 
 pub returns-clause-edit : goal.returns-clause-edit
-returns-clause-edit c = λ edit targets team. rw c.advanced.ensures (gathered_claimed targets team c.args.self edit c.requires.0 c.requires.1)
+returns-clause-edit c = λ edit targets. rw c.advanced.ensures (gathered_claimed targets c.args.self edit c.requires.0 c.requires.1)

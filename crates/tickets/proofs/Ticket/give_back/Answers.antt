@@ -3,4 +3,4 @@ use Rattle.tickets.proofs.Gathering.{gathered_given}
 use Rattle.tickets.proofs.Ticket.give_back.Goals as goal
 
 pub returns-clause-edit : goal.returns-clause-edit
-returns-clause-edit c = λ stale targets team. rw (c.advanced.ensures, c.given.ensures) (gathered_given targets team c.args.self stale c.requires.0 c.requires.1)
+returns-clause-edit c = λ stale targets. rw (c.advanced.ensures, c.given.ensures) (gathered_given targets c.args.self stale c.requires.0 c.requires.1)

@@ -3,4 +3,4 @@ use Rattle.tickets.proofs.Gathering.{gathered_put}
 use Rattle.tickets.proofs.Ticket.put.Goals as goal
 
 pub returns-clause-edit : goal.returns-clause-edit
-returns-clause-edit c = λ targets team. rw c.advanced.ensures (gathered_put targets team c.args.self c.requires.0 c.requires.1)
+returns-clause-edit c = λ targets. rw c.advanced.ensures (gathered_put targets c.args.self c.requires.0 c.requires.1)

@@ -7,4 +7,4 @@ use Rattle.tickets.proofs.Tables.{fresh_table}
 use Rattle.tickets.proofs.Tickets.fresh.Goals as goal
 
 pub returns : goal.returns
-returns c = ap (λ slot. table_of record { slots = replicate team_count slot; targets = _ }) c.none.ensures ∙ fresh_table _
+returns c = ap (λ slot. table_of record { slots = replicate team_count slot }) c.fresh.ensures ∙ fresh_table
