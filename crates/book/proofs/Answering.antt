@@ -1,14 +1,11 @@
 -- A single frame answered, by the way that it goes: a step, or any other frame.
 use Rattle.std.specs.Prelude.{Result, Ok, Err}
-use native.Mathlib.Omega.{arith}
-use Prim.Native.Nat.{ℕ, ◌-◌, ◌≤◌}
-use native.Mathlib.Nat.{zero-add}
+use Prim.Native.Nat.{ℕ, ◌≤◌}
 use mathlib.Core.Path.{◌≡◌, sym, ap, subst, ◌∙◌}
 use mathlib.Core.Bool.{true, false, false≢true}
-use mathlib.Core.List.{List, ◌++◌, append-nil}
+use mathlib.Core.List.{List}
 use borrow.Author.Tests.{eqb-true}
-use lib.ListN.{length, get_or, take, drop, set}
-use lib.Seq.{take-length, drop-length}
+use lib.ListN.{length, get_or, set}
 use Rattle.words.specs.Words.{Words, words_in_book}
 use Rattle.legs.specs.Positions.{Ranks, Accepted}
 use Rattle.tickets.specs.declared.Target.{Target}
@@ -19,7 +16,7 @@ use Rattle.tickets.specs.Table.{absent_slot, gathered, ticket_said, table_with, 
 use Rattle.tickets.proofs.Tables.{slot_gathered}
 use Rattle.frames.specs.Numbers.{Bytes}
 use Rattle.frames.specs.Requests.{step_kind}
-use Rattle.frames.specs.Answers.{answer_frame, longest_answer, written, room_in, PutAt}
+use Rattle.frames.specs.Answers.{longest_answer}
 use Rattle.calls.specs.Way.{Aim}
 use Rattle.calls.specs.Call.{Reply, call_of}
 use Rattle.calls.specs.Way.{Settled, aim_of, slot_of, settled_by}
@@ -47,51 +44,31 @@ step_settles words ticket ranks frame (Ok (Aim.Team kind team)) step =
 
 module _ (words : Words) (targets : List Target) (ranks : Ranks) (frame : Bytes) (aim : Result Aim ℕ) (slot : ℕ) (slotted : slot ≡ slot_of aim) (ticket : Slot.Ticket) where
   -- A step, none of which is tried on the fast way.
-  pub step_answered : (tried : Tried) (left : Slot.Ticket) (after : Words) (targets_after : List Target) (out : Bytes) (at place : ℕ) (output : Bytes) → is_step_by aim ≡ true
+  pub step_answered : (tried : Tried) (left : Slot.Ticket) (after : Words) (targets_after : List Target) (out : Bytes) (count : ℕ) (output : Bytes) → is_step_by aim ≡ true
       → tried ≡ Untried
-      → StepLeft words targets slot ticket tried left after targets_after out at place output
-      → SettledAs (settled_by words (gathered targets ticket) ranks frame aim) targets_after left after out at place output
-  step_answered tried left after targets_after out at place output step none by =
-      subst (λ (r : Settled × Words). SettledAs r targets_after left after out at place output)
+      → StepLeft words targets slot ticket tried left after targets_after out count output
+      → SettledAs (settled_by words (gathered targets ticket) ranks frame aim) targets_after left after out count output
+  step_answered tried left after targets_after out count output step none by =
+      subst (λ (r : Settled × Words). SettledAs r targets_after left after out count output)
       (ap (step_by words (gathered targets ticket)) slotted ∙ step_settles words (gathered targets ticket) ranks frame aim step)
       (by.made (λ found missed. none_missed found (sym none ∙ missed)))
 
   -- Any other frame.
-  pub frame_answered : (opened : Opened) (left : Slot.Ticket) (targets_after : List Target) (out : Bytes) (at : ℕ) (output : Bytes) → NoStep aim → slot_after opened ticket ≡ left
-      → OpenedAs (settled_by words (gathered targets ticket) ranks frame aim).0 targets targets_after ticket opened out at output
-      → SettledAs (settled_by words (gathered targets ticket) ranks frame aim) targets_after left words out at opened.filled output
-  frame_answered opened left targets_after out at output other is by =
+  pub frame_answered : (opened : Opened) (left : Slot.Ticket) (targets_after : List Target) (out output : Bytes) → NoStep aim → slot_after opened ticket ≡ left
+      → OpenedAs (settled_by words (gathered targets ticket) ranks frame aim).0 targets_after ticket opened out output
+      → SettledAs (settled_by words (gathered targets ticket) ranks frame aim) targets_after left words out opened.written output
+  frame_answered opened left targets_after out output other is by =
       record {
         ticket_left = ap (gathered targets_after) (sym is) ∙ by.ticket_left;
         words_left = sym (no_word words (gathered targets ticket) ranks frame aim other);
         answered = by.answered;
       }
 
--- An answer put at the front of an output is written there.
-pub put_front : (out answer : Bytes) (place : ℕ) (output : Bytes) → PutAt out 0 answer place output → ◌≡◌ {A = ℕ × Bytes} (place, output) (written out answer)
-put_front out answer place output ((counted, fits), (filled, long)) = λ i. (counted_is i, filled_is i)
-  where
-    none : length out - 0 ≡ length out
-    none = omega arith
-
-    whole : room_in out 0 ≡ out
-    whole = ap (λ (k : ℕ). take k out) none ∙ take-length out
-
-    counted_is : place ≡ length answer
-    counted_is = counted ∙ zero-add (length answer)
-
-    filled_is : output ≡ (written out answer).1
-    filled_is =
-        filled
-        ∙ (λ i. (answer ++ drop (length answer) (whole i)) ++ drop (none i) out)
-        ∙ ap (λ (l : Bytes). (answer ++ drop (length answer) out) ++ l) (drop-length out)
-        ∙ append-nil (answer ++ drop (length answer) out)
-
 -- The call, from what the code has: where the frame is aimed, its slot, what it left there, and what was written.
 pub answered_call : (words : Words) (table : Table.Tickets) (ranks : Ranks) (frame out : Bytes) (aim : Result Aim ℕ) (slot : ℕ) (left : Slot.Ticket) (targets : List Target) (after : Words) (count : ℕ) (output : Bytes)
     → aim ≡ aim_of frame
     → slot ≡ slot_of aim
-    → SettledAs (settled_by words (ticket_said (get_or table.slots slot absent_slot)) ranks frame aim) targets left after out 0 count output
+    → SettledAs (settled_by words (ticket_said (get_or table.slots slot absent_slot)) ranks frame aim) targets left after out count output
     → length words ≡ words_in_book
     → Accepted ranks
     → longest_answer ≤ length out
@@ -103,4 +80,4 @@ answered_call words table ranks frame out aim slot left targets after count outp
     (λ i. (record { written = count; tickets = stored i }, after, output))
     ∙ call_by words (table_of table) ranks frame out aim slot result.0 after count output aimed slotted
     ((λ i. (result.0, by.words_left i)) ∙ ap (λ (t : Ticket). settled_by words t ranks frame aim) (sym (slot_gathered table slot)))
-    (put_front out (answer_frame result.0.answer) count output by.answered) whole accepted room
+    by.answered whole accepted room

@@ -1,4 +1,5 @@
 pub mod Stored
+pub mod Rooms
 pub mod Turning
 pub mod Stepping
 pub mod Answering

@@ -25,7 +25,7 @@ use Rattle.tickets.proofs.Gathering.{gathered_has}
 use Rattle.frames.specs.declared.Answer.TheVariants as Answer
 use Rattle.frames.specs.Numbers.{Bytes}
 use Rattle.frames.specs.Requests.{step_kind}
-use Rattle.frames.specs.Answers.{answer_frame, longest_answer, PutAt}
+use Rattle.frames.specs.Answers.{answer_frame, longest_answer, room_in, with_room, PutAt}
 use Rattle.calls.specs.Way.{Aim}
 use Rattle.calls.specs.Way.{Settled, AimKnown, aim_of, settled_by}
 use Rattle.calls.specs.Way as way
@@ -46,6 +46,8 @@ use Rattle.handlers.specs.Settling.{step_by, NoStep, SettledAs, StepLeft, slot_a
 use Rattle.handlers.proofs.Cases.{step_by_lem, steps_made, no_word}
 use Rattle.book.specs.Quickly.{quick_for, QuickSlots}
 use Rattle.book.proofs.Stored.{slot_with}
+use Rattle.handlers.proofs.Rooms.{fits_all}
+use Rattle.book.proofs.Rooms.{put_rest, answer_fits, SettledAt, settled_at}
 use Rattle.book.proofs.Turning.{Goes, Turn, next_none, ended, frame_in, team_of, ticket_in, settled_in, slot_known_made, turned}
 
 -- The point of the code at which something is to be shown.
@@ -201,7 +203,7 @@ module _ (turn : Turn) (team : ℕ) (is_step_lem : turn.aim ≡ Ok (Aim.Team ste
 
   -- What a step leaves, as the turn has it.
   step_turned : (left : Slot.Ticket) (targets_after : List Target) (after : Words) (place : ℕ) (output : Bytes)
-      → SettledAs (step_by turn.words ticket team) targets_after left after turn.out turn.filled place output
+      → SettledAt (step_by turn.words ticket team) targets_after left after turn.out turn.filled place output
       → length after ≡ words_in_book
       → Goes turn.ranks turn.input turn.long turn.all turn.known after output (table_with (set turn.table.slots team (slot_with left targets_after))) (turn.at + turn.size) place
   step_turned left targets_after after place output settled_as whole =
@@ -213,12 +215,16 @@ module _ (turn : Turn) (team : ℕ) (is_step_lem : turn.aim ≡ Ok (Aim.Team ste
       (subst (λ (r : Settled × Words). PutAt turn.out turn.filled (answer_frame r.0.answer) place output) (sym settles) settled_as.answered))
 
   -- By a step of a ticket that stands and is well made.
-  by_step : (left : Slot.Ticket) (targets_after : List Target) (after : Words) (place : ℕ) (output : Bytes) → (has_ticket ticket.phase ≡ true) × (well_made ticket ≡ true)
-      → LeftBy (step_of turn.words ticket team) targets_after left after turn.out turn.filled place output
-      → SettledAs (step_by turn.words ticket team) targets_after left after turn.out turn.filled place output
-  by_step left targets_after after place output (stands, well) by =
-      subst (λ (r : Settled × Words). SettledAs r targets_after left after turn.out turn.filled place output) (steps_made turn.words ticket team stands well)
+  by_step : (left : Slot.Ticket) (targets_after : List Target) (after : Words) (out : Bytes) (count : ℕ) (output : Bytes) → (has_ticket ticket.phase ≡ true) × (well_made ticket ≡ true)
+      → LeftBy (step_of turn.words ticket team) targets_after left after out count output
+      → SettledAs (step_by turn.words ticket team) targets_after left after out count output
+  by_step left targets_after after out count output (stands, well) by =
+      subst (λ (r : Settled × Words). SettledAs r targets_after left after out count output) (steps_made turn.words ticket team stands well)
       record { ticket_left = by.ticket_left; words_left = by.words_left; answered = by.answered }
+
+  -- There is room for its answer.
+  pub room_there : turn.filled + longest_answer ≤ length turn.out
+  room_there = omega (arith, turn.goes.fits, turn.ahead.answerable)
 
 -- A swap on the fast way.
 module _ (turn : Turn) (team : ℕ) (is_step_lem : turn.aim ≡ Ok (Aim.Team step_kind team)) (quick : List ℕ) (kept : QuickSlots turn.known turn.table.slots quick) (tried : Tried) (after : Words) (whole : length after ≡ words_in_book)
@@ -251,7 +257,7 @@ module _ (turn : Turn) (team : ℕ) (is_step_lem : turn.aim ≡ Ok (Aim.Team ste
       let told = quick_is_step turn.words its_targets team its_slot (get_or quick team 0) tried after claims fast_at is went in
       let advanced = advanced_by claims its_slot in (
         step_turned turn team is_step_lem quick kept next its_targets after place output
-            (by_step turn team is_step_lem quick kept next its_targets after place output (gathered_has its_targets its_slot ∙ lt-ltb _ _ fast.stands, fast.made)
+            (subst (λ (r : Settled × Words). SettledAt r its_targets next after turn.out turn.filled place output) (steps_made turn.words its_ticket team (gathered_has its_targets its_slot ∙ lt-ltb _ _ fast.stands) fast.made)
             record {
               ticket_left = ap (gathered its_targets) next_is ∙ ap (λ (r : Stepped × Words). r.0.ticket) (sym told);
               words_left = ap (λ (r : Stepped × Words). r.1) (sym told);
@@ -267,72 +273,90 @@ module _ (turn : Turn) (team : ℕ) (is_step_lem : turn.aim ≡ Ok (Aim.Team ste
       same_number true fast = ap (λ b. quick_swaps (advanced_by b its_slot)) (says.claims_is claims went) ∙ quick_kept its_targets its_slot fast
       same_number false fast = refl
 
-  -- It did not: what the other steps leave.
-  pub stepped_on : ((claims : Bool) → tried ≡ Went claims → ⊥) → (left : Slot.Ticket) (targets_after : List Target) (words_after : Words) (place : ℕ) (output : Bytes) (value : ℕ)
-      → StepLeft after its_targets team its_slot tried left words_after targets_after turn.out turn.filled place output
-      → value ≡ quick_for turn.known left
-      → Goes turn.ranks turn.input turn.long turn.all turn.known words_after output (table_with (set turn.table.slots team (slot_with left targets_after))) (turn.at + turn.size) place
-      × QuickSlots turn.known (set turn.table.slots team (slot_with left targets_after)) (set quick team value)
-  stepped_on stays left targets_after words_after place output value by number = (
-    step_turned turn team is_step_lem quick kept left targets_after words_after place output (each tried refl) (by.whole ∙ whole),
-    quick_stored turn.known turn.table.slots quick team value (slot_with left targets_after) known_team kept number,
-  )
+  -- It did not: what the other steps leave, the answer at the front of the rest.
+  stepped_as : ((claims : Bool) → tried ≡ Went claims → ⊥) → (left : Slot.Ticket) (targets_after : List Target) (words_after : Words) (count : ℕ) (rest : Bytes)
+      → StepLeft after its_targets team its_slot tried left words_after targets_after (room_in turn.out turn.filled) count rest
+      → SettledAs (step_by turn.words its_ticket team) targets_after left words_after (room_in turn.out turn.filled) count rest
+  stepped_as stays left targets_after words_after count rest by = each tried refl
     where
-      tried_here : (found : ℕ) → tried ≡ Missed found → SettledAs (step_by turn.words its_ticket team) targets_after left words_after turn.out turn.filled place output
+      tried_here : (found : ℕ) → tried ≡ Missed found → SettledAs (step_by turn.words its_ticket team) targets_after left words_after (room_in turn.out turn.filled) count rest
       tried_here found missed =
           let (targets_same, words_same, left_by_lem) = by.missed found missed in
           let fast = fast_at (says.few_missed found missed) in
-          let step = quick_missed turn.words its_targets team its_slot (get_or quick team 0) tried after found left turn.out turn.filled place output fast_at is missed left_by_lem in
-          by_step turn team is_step_lem quick kept left targets_after words_after place output (gathered_has its_targets its_slot ∙ lt-ltb _ _ fast.stands, fast.made)
+          let step = quick_missed turn.words its_targets team its_slot (get_or quick team 0) tried after found left (room_in turn.out turn.filled) count rest fast_at is missed left_by_lem in
+          by_step turn team is_step_lem quick kept left targets_after words_after (room_in turn.out turn.filled) count rest (gathered_has its_targets its_slot ∙ lt-ltb _ _ fast.stands, fast.made)
           record {
             ticket_left = ap (λ (l : List Target). gathered l left) targets_same ∙ step.ticket_left;
             words_left = words_same ∙ step.words_left;
             answered = step.answered;
           }
 
-      made_there : tried ≡ Untried → SettledAs (step_by turn.words its_ticket team) targets_after left words_after turn.out turn.filled place output
+      made_there : tried ≡ Untried → SettledAs (step_by turn.words its_ticket team) targets_after left words_after (room_in turn.out turn.filled) count rest
       made_there none =
-          subst (λ (w : Words). SettledAs (step_by w its_ticket team) targets_after left words_after turn.out turn.filled place output) (says.nothing_tried none) (by.made (λ found missed. none_missed found (sym none ∙ missed)))
+          subst (λ (w : Words). SettledAs (step_by w its_ticket team) targets_after left words_after (room_in turn.out turn.filled) count rest) (says.nothing_tried none) (by.made (λ found missed. none_missed found (sym none ∙ missed)))
 
-      each : (result : Tried) → tried ≡ result → SettledAs (step_by turn.words its_ticket team) targets_after left words_after turn.out turn.filled place output
+      each : (result : Tried) → tried ≡ result → SettledAs (step_by turn.words its_ticket team) targets_after left words_after (room_in turn.out turn.filled) count rest
       each (Went claims) is = absurd (stays claims is)
       each (Missed found) is = tried_here found is
       each Untried is = made_there is
 
--- Any other frame, in the slot that the code took for it.
-module _ (turn : Turn) (other : NoStep turn.aim) (quick : List ℕ) (kept : QuickSlots turn.known turn.table.slots quick) (team : ℕ) (slotted : team ≡ team_of turn) (opened : Opened) (targets_after : List Target) (output : Bytes)
-    (left_as : OpenedAs (settled_by turn.words (ticket_said (slot_of turn.table team)) turn.ranks (frame_in turn) turn.aim).0 (slot_of turn.table team).targets targets_after (slot_of turn.table team).ticket opened turn.out turn.filled output) where
-  frame_as : OpenedAs (settled_in turn).0 (slot_of turn.table (team_of turn)).targets targets_after (slot_of turn.table (team_of turn)).ticket opened turn.out turn.filled output
+  pub stepped_fits : ((claims : Bool) → tried ≡ Went claims → ⊥) → (left : Slot.Ticket) (targets_after : List Target) (words_after : Words) (count : ℕ) (rest : Bytes)
+      → StepLeft after its_targets team its_slot tried left words_after targets_after (room_in turn.out turn.filled) count rest
+      → turn.filled + count ≤ length turn.out
+  stepped_fits stays left targets_after words_after count rest by =
+      answer_fits (step_by turn.words its_ticket team).0.answer turn.filled (length turn.out) (room_in turn.out turn.filled) (room_there turn team is_step_lem quick kept) (stepped_as stays left targets_after words_after count rest by).answered
+
+  pub stepped_on : ((claims : Bool) → tried ≡ Went claims → ⊥) → (left : Slot.Ticket) (targets_after : List Target) (words_after : Words) (count : ℕ) (rest output : Bytes) (value : ℕ)
+      → StepLeft after its_targets team its_slot tried left words_after targets_after (room_in turn.out turn.filled) count rest
+      → length words_after ≡ words_in_book
+      → output ≡ with_room turn.out turn.filled rest
+      → value ≡ quick_for turn.known left
+      → Goes turn.ranks turn.input turn.long turn.all turn.known words_after output (table_with (set turn.table.slots team (slot_with left targets_after))) (turn.at + turn.size) (turn.filled + count)
+      × QuickSlots turn.known (set turn.table.slots team (slot_with left targets_after)) (set quick team value)
+  stepped_on stays left targets_after words_after count rest output value by whole_after stored number = (
+    step_turned turn team is_step_lem quick kept left targets_after words_after (turn.filled + count) output
+        (settled_at turn.out turn.filled count rest output (room_there turn team is_step_lem quick kept) (stepped_as stays left targets_after words_after count rest by) stored) whole_after,
+    quick_stored turn.known turn.table.slots quick team value (slot_with left targets_after) known_team kept number,
+  )
+
+-- Any other frame, in the slot that the code took for it, its answer at the front of the rest.
+module _ (turn : Turn) (other : NoStep turn.aim) (quick : List ℕ) (kept : QuickSlots turn.known turn.table.slots quick) (team : ℕ) (slotted : team ≡ team_of turn) (opened : Opened) (targets_after : List Target) (rest output : Bytes)
+    (left_as : OpenedAs (settled_by turn.words (ticket_said (slot_of turn.table team)) turn.ranks (frame_in turn) turn.aim).0 targets_after (slot_of turn.table team).ticket opened (room_in turn.out turn.filled) rest)
+    (stored : output ≡ with_room turn.out turn.filled rest) where
+  frame_as : OpenedAs (settled_in turn).0 targets_after (slot_of turn.table (team_of turn)).ticket opened (room_in turn.out turn.filled) rest
   frame_as =
-      subst (λ (t : ℕ). OpenedAs (settled_by turn.words (ticket_said (slot_of turn.table t)) turn.ranks (frame_in turn) turn.aim).0 (slot_of turn.table t).targets targets_after (slot_of turn.table t).ticket opened turn.out turn.filled output)
+      subst (λ (t : ℕ). OpenedAs (settled_by turn.words (ticket_said (slot_of turn.table t)) turn.ranks (frame_in turn) turn.aim).0 targets_after (slot_of turn.table t).ticket opened (room_in turn.out turn.filled) rest)
       slotted left_as
+
+  pub frame_fits : turn.filled + opened.written ≤ length turn.out
+  frame_fits = answer_fits (settled_in turn).0.answer turn.filled (length turn.out) (room_in turn.out turn.filled) (omega (arith, turn.goes.fits, turn.ahead.answerable)) frame_as.answered
 
   -- The slot as it is stored.
   frame_turned : (left : Slot.Ticket) → slot_after opened (slot_of turn.table (team_of turn)).ticket ≡ left
-      → Goes turn.ranks turn.input turn.long turn.all turn.known turn.words output (table_with (set turn.table.slots (team_of turn) (slot_with left targets_after))) (turn.at + turn.size) opened.filled
+      → Goes turn.ranks turn.input turn.long turn.all turn.known turn.words output (table_with (set turn.table.slots (team_of turn) (slot_with left targets_after))) (turn.at + turn.size) (turn.filled + opened.written)
   frame_turned left is =
-      turned turn left targets_after turn.words opened.filled output
+      turned turn left targets_after turn.words (turn.filled + opened.written) output
       (ap (gathered targets_after) (sym is) ∙ frame_as.ticket_left)
       (sym (no_word turn.words (ticket_in turn) turn.ranks (frame_in turn) turn.aim other))
       turn.goes.book
-      frame_as.answered
+      (put_rest turn.out turn.filled (answer_frame (settled_in turn).0.answer) opened.written rest output (fits_all (settled_in turn).0.answer) (omega (arith, turn.goes.fits, turn.ahead.answerable)) frame_as.answered stored)
 
   -- A ticket is opened,
   pub opened_on : (after : Slot.Ticket) → opened.ticket ≡ Some after → team < team_count → (value : ℕ) → value ≡ quick_for turn.known after
-      → Goes turn.ranks turn.input turn.long turn.all turn.known turn.words output (table_with (set turn.table.slots team (slot_with after targets_after))) (turn.at + turn.size) opened.filled
+      → Goes turn.ranks turn.input turn.long turn.all turn.known turn.words output (table_with (set turn.table.slots team (slot_with after targets_after))) (turn.at + turn.size) (turn.filled + opened.written)
       × QuickSlots turn.known (set turn.table.slots team (slot_with after targets_after)) (set quick team value)
   opened_on after opens inside value number = (
-    subst (λ (t : ℕ). Goes turn.ranks turn.input turn.long turn.all turn.known turn.words output (table_with (set turn.table.slots t (slot_with after targets_after))) (turn.at + turn.size) opened.filled) (sym slotted)
+    subst (λ (t : ℕ). Goes turn.ranks turn.input turn.long turn.all turn.known turn.words output (table_with (set turn.table.slots t (slot_with after targets_after))) (turn.at + turn.size) (turn.filled + opened.written)) (sym slotted)
         (frame_turned after (ap (λ (o : Option Slot.Ticket). unwrap_or o (slot_of turn.table (team_of turn)).ticket) opens)),
     quick_stored turn.known turn.table.slots quick team value (slot_with after targets_after) inside kept number,
   )
 
   -- or none is.
   pub unopened_on : opened.ticket ≡ None → team < team_count
-      → Goes turn.ranks turn.input turn.long turn.all turn.known turn.words output (table_with (set turn.table.slots team (slot_with (slot_of turn.table team).ticket targets_after))) (turn.at + turn.size) opened.filled
+      → Goes turn.ranks turn.input turn.long turn.all turn.known turn.words output (table_with (set turn.table.slots team (slot_with (slot_of turn.table team).ticket targets_after))) (turn.at + turn.size) (turn.filled + opened.written)
       × QuickSlots turn.known (set turn.table.slots team (slot_with (slot_of turn.table team).ticket targets_after)) quick
   unopened_on closed inside = (
-    subst (λ (t : ℕ). Goes turn.ranks turn.input turn.long turn.all turn.known turn.words output (table_with (set turn.table.slots t (slot_with (slot_of turn.table t).ticket targets_after))) (turn.at + turn.size) opened.filled) (sym slotted)
+    subst (λ (t : ℕ). Goes turn.ranks turn.input turn.long turn.all turn.known turn.words output (table_with (set turn.table.slots t (slot_with (slot_of turn.table t).ticket targets_after))) (turn.at + turn.size) (turn.filled + opened.written)) (sym slotted)
         (frame_turned (slot_of turn.table (team_of turn)).ticket (ap (λ (o : Option Slot.Ticket). unwrap_or o (slot_of turn.table (team_of turn)).ticket) closed)),
     quick_same turn.known turn.table.slots quick team (slot_with (slot_of turn.table team).ticket targets_after) inside kept refl,
   )

@@ -5,6 +5,7 @@ ghost use Rattle.std.specs.Prelude.{◌≡◌, Bool, true, ℕ, ◌≤◌, ◌<�
 ghost use Rattle.words.specs.Words.{words_in_book};
 ghost use Rattle.tickets.specs.Table.{table_of};
 ghost use Rattle.frames.specs.Refusals.{numbered, refusal_in};
+ghost use Rattle.frames.specs.Answers.{longest_answer};
 ghost use Rattle.calls.specs.Call.{call_of};
 ghost use Rattle.calls.specs.Returned.{reply_of, returned_refusal};
 ghost use Rattle.calls.specs.Stream.{streamed, streamed_of, stream_from, stream_of};
@@ -39,7 +40,7 @@ fn is_step(aim: Result<Aim, Refusal>) -> bool
 
 // What a frame leaves in its slot, the table not known to be well made, and its answer at the front of the output.
 fn answer(
-    book: &mut [u64],
+    book: &mut [u64; Limits::WORDS],
     targets: &mut [Target; Tickets::ROOM],
     ranks: &AcceptedRanks,
     ticket: Ticket,
@@ -48,16 +49,16 @@ fn answer(
     aim: Result<Aim, Refusal>,
     out: &mut [u8],
 ) -> Left
-    requires { (length book.old ≡ words_in_book) × AimKnown frame.now (aim_numbered aim) × (team ≡ slot_of (aim_numbered aim)) × RoomAt out.old 0 }
-    ensures { SettledAs (settled_by book.old (gathered targets.old ticket) ranks.now frame.now (aim_numbered aim)) targets.new result.ticket book.new out.old 0 result.filled out.new }
+    requires { AimKnown frame.now (aim_numbered aim) × (team ≡ slot_of (aim_numbered aim)) × (longest_answer ≤ length out.old) }
+    ensures { SettledAs (settled_by book.old (gathered targets.old ticket) ranks.now frame.now (aim_numbered aim)) targets.new result.ticket book.new out.old result.written out.new }
 {
     if is_step(aim) {
-        return other_step(book, targets, ticket, team, Tried::Untried, false, out, 0);
+        return other_step(book, targets, ticket, team, Tried::Untried, false, out);
     }
-    let opened = other_frame(book, targets, ranks, ticket, frame, aim, out, 0);
+    let opened = other_frame(book, targets, ranks, ticket, frame, aim, out);
     Left {
         ticket: opened.ticket.unwrap_or(ticket),
-        filled: opened.filled,
+        written: opened.written,
     }
 }
 
@@ -82,13 +83,12 @@ pub fn call(
     ensures all { (reply_of result, book.new, out.new) ≡ call_of book.old (table_of tickets) ranks.now frame.now out.old }
     ensures refusal { refusal_in (numbered result.written) ≡ returned_refusal book.old ranks.now out.old }
 {
-    if book.len() != Limits::WORDS {
+    let Some(book) = book.as_mut_array() else {
         return turned_away(tickets, Refusal::Book);
-    }
-    if !ranks::is_permutation(ranks) {
+    };
+    let Some(accepted) = ranks::accepted(ranks) else {
         return turned_away(tickets, Refusal::Ranks);
-    }
-    let accepted = AcceptedRanks { numbers: ranks };
+    };
     if out.len() < Answer::LONGEST {
         return turned_away(tickets, Refusal::Output);
     }
@@ -107,7 +107,7 @@ pub fn call(
     );
     slot.ticket = left.ticket;
     Reply {
-        written: Ok(left.filled),
+        written: Ok(left.written),
         tickets,
     }
 }
@@ -144,13 +144,12 @@ fn stopped(tickets: Tickets, consumed: usize, written: usize, stop: Stop) -> Str
 // tickets are well made at the start they stay so, and no step tests one again. The look at the ranks tells the proof that
 // they are accepted. What is known of a slot in this stream alone stands beside the table, which is returned as it is.
 fn answer_frames(
-    book: &mut [u64],
+    book: &mut [u64; Limits::WORDS],
     mut tickets: Tickets,
     ranks: &AcceptedRanks,
     input: &[u8],
     out: &mut [u8],
 ) -> Streamed
-    requires { length book.old ≡ words_in_book }
     ensures { ((result.consumed ≤ length input.now) × (result.written ≤ length out.old)) × ((streamed_of result, book.new, out.new) ≡ stream_from (length input.now) book.old (table_of tickets) ranks.now input.now out.old 0 0) }
 {
     let _ = &ranks.numbers;
@@ -184,12 +183,11 @@ fn answer_frames(
                     team,
                     tried,
                     known,
-                    out,
-                    filled,
+                    &mut out[filled..],
                 );
                 slot.ticket = left.ticket;
                 quick[team] = quick_of(left.ticket, known);
-                filled = left.filled;
+                filled += left.written;
             }
             Ahead::Other(size) => {
                 let frame = &input[at..at + size];
@@ -204,10 +202,9 @@ fn answer_frames(
                     slot.ticket,
                     frame,
                     aim,
-                    out,
-                    filled,
+                    &mut out[filled..],
                 );
-                filled = left.filled;
+                filled += left.written;
                 if let Some(after) = left.ticket {
                     slot.ticket = after;
                     quick[team] = quick_of(after, known);
@@ -228,12 +225,11 @@ pub fn stream(
     ensures bounds { (result.consumed ≤ length input.now) × (result.written ≤ length out.old) }
     ensures all { (streamed_of result, book.new, out.new) ≡ stream_of book.old (table_of tickets) ranks.now input.now out.old }
 {
-    if book.len() != Limits::WORDS {
+    let Some(book) = book.as_mut_array() else {
         return stopped(tickets, 0, 0, Stop::NoBook);
-    }
-    if !ranks::is_permutation(ranks) {
+    };
+    let Some(accepted) = ranks::accepted(ranks) else {
         return stopped(tickets, 0, 0, Stop::NoRanks);
-    }
-    let accepted = AcceptedRanks { numbers: ranks };
+    };
     answer_frames(book, tickets, &accepted, input, out)
 }

@@ -7,7 +7,7 @@
 
 ghost use Rattle.std.specs.Prelude.{◌+◌, ◌≤◌, length};
 
-use desk::records::{Given, Record, Records};
+use desk::records::{Given, Record};
 use desk::{Room, records};
 use frames::Refusal;
 use sound::Scratch;
@@ -86,9 +86,10 @@ fn check_case(stdout: Stdout, case: Case<'_>, filling: u8) -> io::Result<()> {
 
 fn main(rt: HostRuntime) -> io::Result<()> {
     let mut buffer = [0u8; Room::INPUT];
-    let input = desk::read_full(rt.stdin(), &mut buffer);
-    for (case, filling) in Records::of(input).zip(Sector::FILLINGS.iter().cycle()) {
-        check_case(rt.stdout(), case, *filling)?;
-    }
-    Ok(())
+    let mut fillings = Sector::FILLINGS;
+    desk::for_each_record(rt.stdin(), &mut buffer, |case| {
+        let [filling, _] = fillings;
+        fillings.rotate_left(1);
+        check_case(rt.stdout(), case, filling)
+    })
 }

@@ -129,9 +129,7 @@ fn carry_case(stdout: Stdout, case: Case<'_>) -> io::Result<()> {
 
 fn main(rt: HostRuntime) -> io::Result<()> {
     let mut buffer = [0u8; Room::INPUT];
-    let input = desk::read_full(rt.stdin(), &mut buffer);
-    for case in Records::of(input) {
-        carry_case(rt.stdout(), case)?;
-    }
-    Ok(())
+    desk::for_each_record(rt.stdin(), &mut buffer, |case| {
+        carry_case(rt.stdout(), case)
+    })
 }

@@ -28,7 +28,7 @@ differed_by slot none = cond none no_slot (tried_slot slot Stale slot.claimed 0)
 abbrev pub told_by : Slot.Ticket → ℕ → Bool → StepAnswer
 told_by slot word none = cond none (Answer.Stale word (one_more_try slot.tries)) (Answer.Found word)
 
-module _ (targets : List Target) (slot : Slot.Ticket) (out : Bytes) (at : ℕ) (known : MissesIn targets slot out at) where
+module _ (targets : List Target) (slot : Slot.Ticket) (out : Bytes) (known : MissesIn targets slot) where
   abbrev there : Ticket
   there = standing targets slot
 
@@ -41,35 +41,35 @@ module _ (targets : List Target) (slot : Slot.Ticket) (out : Bytes) (at : ℕ) (
 
   module _ (found : ℕ) (left : Slot.Ticket) (place : ℕ) (output : Bytes) where
     -- From a step of the ticket that stands there.
-    miss_left : (result : Stepped) → missed_by there found ≡ result → gathered targets left ≡ result.ticket → Answered out at result.answer place output → MissLeft targets slot found left out at place output
+    miss_left : (result : Stepped) → missed_by there found ≡ result → gathered targets left ≡ result.ticket → Answered out result.answer place output → MissLeft targets slot found left out place output
     miss_left result is ticket answer words =
-        subst (λ s. LeftBy (s, words) targets left words out at place output)
+        subst (λ s. LeftBy (s, words) targets left words out place output)
         (sym is ∙ ap (λ (t : Ticket). missed_by t found) (sym (is_standing targets slot known.made)))
         record { ticket_left = ticket; words_left = refl; answered = answer }
 
     -- It waits,
     pub miss_waits : is_held found ≡ true
         → left ≡ tried_slot slot slot.kind slot.claimed slot.done
-        → Answered out at (Answer.Waiting (target_standing targets slot.claimed).word (holder_of found)) place output
-        → MissLeft targets slot found left out at place output
+        → Answered out (Answer.Waiting (target_standing targets slot.claimed).word (holder_of found)) place output
+        → MissLeft targets slot found left out place output
     miss_waits held is answer =
         miss_left (waited there found)
         (ap (λ b. cond b (waited there found) (differed there)) held)
         (ap (gathered targets) is
         ∙ gathered_tried targets slot slot.kind slot.claimed slot.done (made_stands targets slot known.made)
         ∙ ap (λ p. advanced there p slot.claimed slot.done) (standing_phase targets slot known.made ∙ known.claiming))
-        (subst (λ word. Answered out at (Answer.Waiting word (holder_of found)) place output) word_told answer)
+        (subst (λ word. Answered out (Answer.Waiting word (holder_of found)) place output) word_told answer)
 
     -- or is found stale.
     pub miss_differs : is_held found ≡ false
         → left ≡ differed_slot slot
-        → Answered out at (differed_answer slot (target_standing targets slot.claimed).word) place output
-        → MissLeft targets slot found left out at place output
+        → Answered out (differed_answer slot (target_standing targets slot.claimed).word) place output
+        → MissLeft targets slot found left out place output
     miss_differs value is answer =
         miss_left (differed there)
         (ap (λ b. cond b (waited there found) (differed there)) value)
         (ap (gathered targets) is ∙ ticket_left (eqb slot.claimed 0))
-        (subst (λ told. Answered out at told place output) (ap (differed_answer slot) word_told ∙ told_is (eqb slot.claimed 0)) answer)
+        (subst (λ told. Answered out told place output) (ap (differed_answer slot) word_told ∙ told_is (eqb slot.claimed 0)) answer)
       where
         word : ℕ
         word = (target_at there slot.claimed).word

@@ -11,7 +11,7 @@ use Rattle.tickets.specs.Tickets.{Ticket, well_made}
 use Rattle.tickets.specs.Steps.{Stepped, one_more_try, waited, differed}
 use Rattle.tickets.specs.Table.{no_slot, phase_of, tried_slot, gathered}
 use Rattle.frames.specs.Numbers.{Bytes}
-use Rattle.replies.specs.Leaving.{RoomAt, LeftBy}
+use Rattle.replies.specs.Leaving.{LeftBy}
 
 -- What it comes to: it waits, or is found stale.
 abbrev pub missed_by : Ticket → ℕ → Stepped
@@ -24,13 +24,12 @@ differed_slot slot = cond (eqb slot.claimed 0) no_slot (tried_slot slot Stale sl
 abbrev pub differed_answer : Slot.Ticket → ℕ → StepAnswer
 differed_answer slot word = cond (eqb slot.claimed 0) (Answer.Stale word (one_more_try slot.tries)) (Answer.Found word)
 
--- What is known where a claim misses: the ticket claims, is well made, and there is room for an answer.
-pub record MissesIn (targets : List Target) (slot : Slot.Ticket) (out : Bytes) (at : ℕ) : Type 0 where
+-- What is known where a claim misses: the ticket claims, and is well made.
+pub record MissesIn (targets : List Target) (slot : Slot.Ticket) : Type 0 where
   pub claiming : phase_of slot ≡ Claiming
   pub made : well_made (gathered targets slot) ≡ true
-  pub room_at : RoomAt out at
 
 -- What it leaves, whatever the words are, which stay.
-abbrev pub MissLeft : List Target → Slot.Ticket → ℕ → Slot.Ticket → Bytes → ℕ → ℕ → Bytes → Type 0
-MissLeft targets slot found left out at place output =
-    (words : Words) → LeftBy (missed_by (gathered targets slot) found, words) targets left words out at place output
+abbrev pub MissLeft : List Target → Slot.Ticket → ℕ → Slot.Ticket → Bytes → ℕ → Bytes → Type 0
+MissLeft targets slot found left out count output =
+    (words : Words) → LeftBy (missed_by (gathered targets slot) found, words) targets left words out count output

@@ -1,10 +1,14 @@
-// What the programs share that make calls from standard input: room, what the input holds, and the text of answers.
+// What the programs share that make calls from standard input: room, what the input holds, what a call returns, and the text of answers.
 #![tactic(auto)]
 
 ghost use Rattle.std.specs.Prelude.{◌≡◌, ◌≤◌, length};
+ghost use Rattle.frames.specs.Refusals.{numbered};
+ghost use Rattle.desk.specs.Calls.{CalledAtEach, number_returned};
 ghost use Rattle.desk.specs.Targets.{with_number};
 
-use records::{Given, Records};
+use frames::Refusal;
+use records::{Given, Record, Records};
+use std::io;
 use std::io::{Read, Stdin};
 use tickets::{Target, Tickets};
 use words::Limits;
@@ -40,6 +44,26 @@ pub fn read_full<const N: usize>(mut stdin: Stdin, buffer: &mut [u8; N]) -> &[u8
         done += count;
     }
     &buffer[..done]
+}
+
+// Calls for each record of the input, up to a call that fails. The buffer is the caller's, since the records borrow from it.
+pub fn for_each_record<'a, R: Record<'a>, F: FnMut(R) -> io::Result<()>>(
+    stdin: Stdin,
+    buffer: &'a mut [u8; Room::INPUT],
+    f: F,
+) -> io::Result<()>
+    requires { F.IsAlwaysCallable f }
+    ensures { CalledAtEach R.reads F.FnMut f result }
+{
+    let input = read_full(stdin, buffer);
+    Records::of(input).try_for_each(f)
+}
+
+// The number that a call returns: that of the bytes written, or its refusal's.
+pub fn returned(written: Result<usize, Refusal>) -> usize
+    ensures { result ≡ number_returned (numbered written) }
+{
+    written.unwrap_or_else(|refusal| refusal.number() as usize)
 }
 
 // A word that the book doesn't have is passed over.

@@ -153,7 +153,8 @@ impl<'a> Record<'a> for Given {
     }
 }
 
-// Whose a slot's ticket is, 16 bits: 0 an edit's, 1 that of an edit found stale, 2 a view's.
+// Whose a slot's ticket is, 16 bits: 0 an edit's, 1 that of an edit found stale, any other number a view's.
+// No plainer as a `From` or `TryFrom`: no number is refused, and neither type is this crate's, so that the impl can't be here.
 impl<'a> Record<'a> for Kind {
     ghost reads = { λ bytes kind left. (kind, left) ≡ first_kind bytes };
 

@@ -1,6 +1,6 @@
 -- What a frame settles, case by case: each test of the code, and what the definitions of the way say there.
 use Rattle.edits.specs.declared.View.{View}
-use Rattle.std.specs.Prelude.{Option, None, Some, unwrap_or, Result, Ok, Err}
+use Rattle.std.specs.Prelude.{None, Result, Ok, Err}
 use Prim.Native.Nat.{ℕ, ◌≤◌}
 use mathlib.Core.Path.{◌≡◌, refl, sym, ap, subst, ◌∙◌}
 use mathlib.Core.Bool.{Bool, true, false, cond, not, false≢true}
@@ -25,9 +25,10 @@ use Rattle.edits.specs.Opened.{target_count, opened_ticket}
 use Rattle.edits.specs.Views.{all_in_book, view_in_range, view_repeats, FineView, view_of, words_named, opened_view}
 use Rattle.edits.proofs.Views.{words_named_lem}
 use Rattle.frames.specs.declared.Answer.{Answer}
+use Rattle.frames.specs.declared.Refusal.{Refusal}
 use Rattle.frames.specs.Numbers.{Bytes, number16}
 use Rattle.frames.specs.Requests.{part_after_kind, step_kind, look_kind, view_kind, is_edit_kind, edit_of_kind, angles_of_kind, view_words_in}
-use Rattle.frames.specs.Answers.{answer_frame, PutAt}
+use Rattle.frames.specs.Answers.{answer_frame, written}
 use Rattle.frames.specs.Fields.{read_if, read_edit, view_read, ViewFields, Whole}
 use Rattle.frames.proofs.Headers.{edit_kind_lem, other_kind, fields_of_kind, fields_of_view}
 use Rattle.decoder.proofs.Decoded.{only_allowed}
@@ -36,7 +37,7 @@ use Rattle.calls.specs.Way.{Aim}
 use Rattle.calls.specs.Way.{Settled, AimKnown, settled_with, look_answer, open_settled, view_settled, step_settled, new_settled, EditFields, team_settled, look_settled, settled_by}
 use Rattle.replies.specs.Leaving.{LeftBy}
 use Rattle.handlers.specs.declared.Opened.{Opened}
-use Rattle.handlers.specs.Settling.{step_by, open_by, NoStep, SettledAs, slot_after, OpenedAs}
+use Rattle.handlers.specs.Settling.{step_by, open_by, NoStep, SettledAs, slot_asked, answer_asked, AskedAs, OpenedBy, OpenedAs}
 
 -- A step of a team.
 pub step_by_lem : (words : Words) (ticket : Ticket) (ranks : Ranks) (frame : Bytes) (team : ℕ) → settled_by words ticket ranks frame (Ok (Aim.Team step_kind team)) ≡ step_by words ticket team
@@ -134,25 +135,21 @@ view_read_opens part view fields e =
     let named : words_named view ≡ view_words_in part = ap words_named same ∙ words_named_lem (view_words_in part) in
     (same ∙ ap view_of (sym named), subst FineView (sym named) fine)
 
--- What a frame leaves that opens no ticket: the slot and its targets as they were.
-pub left_unopened : (result : Settled) (targets : List Target) (slot : Slot.Ticket) (opened : Opened) (answer : Answer) (out : Bytes) (at place : ℕ) (output : Bytes)
-    → (opened.ticket ≡ None) × (opened.filled ≡ place) → settled_with (gathered targets slot) answer ≡ result
-    → PutAt out at (answer_frame answer) place output
-    → OpenedAs result targets targets slot opened out at output
-left_unopened result targets slot opened answer out at place output (closed, filled) is put = record {
-  ticket_left = ap (λ (o : Option Slot.Ticket). gathered targets (unwrap_or o slot)) closed ∙ ap (λ (s : Settled). s.ticket) is;
-  answered = subst (λ (p : ℕ). PutAt out at (answer_frame result.answer) p output) (sym filled) (subst (λ (a : Answer). PutAt out at (answer_frame a) place output) (ap (λ (s : Settled). s.answer) is) put);
+-- What a frame that asks for a ticket comes to, from what it settles.
+pub asked_so : {result : Settled} (targets : List Target) (slot : Slot.Ticket) (asked : Result Slot.Ticket Refusal) → settled_with (gathered targets (slot_asked asked slot)) (answer_asked asked) ≡ result → AskedAs result targets slot asked
+asked_so targets slot asked is = record { ticket_left = ap (λ (s : Settled). s.ticket) is; answer = ap (λ (s : Settled). s.answer) is }
+
+-- Its answer written,
+pub opened_as : {result : Settled} {targets : List Target} {slot : Slot.Ticket} {asked : Result Slot.Ticket Refusal} {opened : Opened} {out output : Bytes} → AskedAs result targets slot asked → OpenedBy asked opened out output → OpenedAs result targets slot opened out output
+opened_as {targets = targets} {slot} {opened = opened} {out} {output} asks by = record {
+  ticket_left = ap (gathered targets) (by.opens slot) ∙ asks.ticket_left;
+  answered = by.answered ∙ ap (λ (a : Answer). written out (answer_frame a)) asks.answer;
 }
 
--- And one that does: the ticket that its targets say.
-pub left_opened : (result : Settled) (before after : List Target) (slot ticket : Slot.Ticket) (opened : Opened) (answer : Answer) (out : Bytes) (at place : ℕ) (output : Bytes)
-    → opened ≡ record { ticket = Some ticket; filled = place } → settled_with (gathered after ticket) answer ≡ result
-    → PutAt out at (answer_frame answer) place output
-    → OpenedAs result before after slot opened out at output
-left_opened result before after slot ticket opened answer out at place output is settled put = record {
-  ticket_left = ap (λ (o : Opened). gathered after (slot_after o slot)) is ∙ ap (λ (s : Settled). s.ticket) settled;
-  answered = subst (λ (p : ℕ). PutAt out at (answer_frame result.answer) p output) (ap (λ (o : Opened). o.filled) (sym is)) (subst (λ (a : Answer). PutAt out at (answer_frame a) place output) (ap (λ (s : Settled). s.answer) settled) put);
-}
+-- and that of a frame that opens none.
+pub unopened_as : {result : Settled} (targets : List Target) (slot : Slot.Ticket) (count : ℕ) (answer : Answer) {out output : Bytes} → settled_with (gathered targets slot) answer ≡ result → ◌≡◌ {A = ℕ × Bytes} (count, output) (written out (answer_frame answer))
+    → OpenedAs result targets slot record { ticket = None; written = count } out output
+unopened_as targets slot count answer {out} is put = record { ticket_left = ap (λ (s : Settled). s.ticket) is; answered = put ∙ ap (λ (s : Settled). written out (answer_frame s.answer)) is }
 
 -- An edit read, and a view.
 pub edit_opened : (ticket opened : Ticket) (ranks : Ranks) (edit : Edit) (n : ℕ) → opened ≡ opened_ticket ranks edit → n ≡ target_count edit → settled_with opened (Answer.Standing n) ≡ open_settled ticket ranks (Ok edit)
@@ -199,32 +196,27 @@ known_passes ticket passes = go (has_ticket ticket.phase) refl
     go false is = refl
 
 -- A step refused, and one that is made.
-pub step_refused : (words : Words) (targets : List Target) (team : ℕ) (slot left : Slot.Ticket) (number : ℕ) (out : Bytes) (at place : ℕ) (output : Bytes) → left ≡ slot
+pub step_refused : (words : Words) (targets : List Target) (team : ℕ) (slot left : Slot.Ticket) (number : ℕ) (out : Bytes) (count : ℕ) (output : Bytes) → left ≡ slot
     → ◌≡◌ {A = Settled × Words} (settled_with (gathered targets slot) (Answer.Refused number), words) (step_by words (gathered targets slot) team)
-    → PutAt out at (answer_frame (Answer.Refused number)) place output
-    → SettledAs (step_by words (gathered targets slot) team) targets left words out at place output
-step_refused words targets team slot left number out at place output same is put = record {
+    → ◌≡◌ {A = ℕ × Bytes} (count, output) (written out (answer_frame (Answer.Refused number)))
+    → SettledAs (step_by words (gathered targets slot) team) targets left words out count output
+step_refused words targets team slot left number out count output same is put = record {
   ticket_left = ap (gathered targets) same ∙ ap (λ (r : Settled × Words). r.0.ticket) is;
   words_left = ap (λ (r : Settled × Words). r.1) is;
-  answered = subst (λ (r : Settled × Words). PutAt out at (answer_frame r.0.answer) place output) is put;
+  answered = put ∙ ap (λ (r : Settled × Words). written out (answer_frame r.0.answer)) is;
 }
 
-pub step_left : (words : Words) (targets targets_after : List Target) (team : ℕ) (slot left : Slot.Ticket) (after : Words) (out : Bytes) (at place : ℕ) (output : Bytes)
+pub step_left : (words : Words) (targets targets_after : List Target) (team : ℕ) (slot left : Slot.Ticket) (after : Words) (out : Bytes) (count : ℕ) (output : Bytes)
     → has_ticket (gathered targets slot).phase ≡ true → well_made (gathered targets slot) ≡ true
-    → LeftBy (step_of words (gathered targets slot) team) targets_after left after out at place output
-    → SettledAs (step_by words (gathered targets slot) team) targets_after left after out at place output
-step_left words targets targets_after team slot left after out at place output stands made by =
-    subst (λ (r : Settled × Words). SettledAs r targets_after left after out at place output) (steps_made words (gathered targets slot) team stands made)
+    → LeftBy (step_of words (gathered targets slot) team) targets_after left after out count output
+    → SettledAs (step_by words (gathered targets slot) team) targets_after left after out count output
+step_left words targets targets_after team slot left after out count output stands made by =
+    subst (λ (r : Settled × Words). SettledAs r targets_after left after out count output) (steps_made words (gathered targets slot) team stands made)
     record { ticket_left = by.ticket_left; words_left = by.words_left; answered = by.answered }
 
--- What a frame leaves, by another way to say what it settles,
-pub settled_so : {first second : Settled} {before after : List Target} {slot : Slot.Ticket} {opened : Opened} {out : Bytes} {at : ℕ} {output : Bytes} → first ≡ second
-    → OpenedAs first before after slot opened out at output → OpenedAs second before after slot opened out at output
-settled_so {first} {second} {before} {after} {slot} {opened} {out} {at} {output} is by = subst (λ (r : Settled). OpenedAs r before after slot opened out at output) is by
-
--- and by the aim that it was found to have.
-pub aimed_so : (words : Words) (targets : List Target) (ranks : Ranks) (frame : Bytes) (slot : Slot.Ticket) {first second : Result Aim ℕ} {after : List Target} {opened : Opened} {out : Bytes} {at : ℕ} {output : Bytes} → first ≡ second
-    → OpenedAs (settled_by words (gathered targets slot) ranks frame second).0 targets after slot opened out at output
-    → OpenedAs (settled_by words (gathered targets slot) ranks frame first).0 targets after slot opened out at output
-aimed_so words targets ranks frame slot {first} {second} {after} {opened} {out} {at} {output} is by =
-    subst (λ (a : Result Aim ℕ). OpenedAs (settled_by words (gathered targets slot) ranks frame a).0 targets after slot opened out at output) (sym is) by
+-- What a frame leaves, by the aim that it was found to have.
+pub aimed_so : (words : Words) (ticket : Ticket) (ranks : Ranks) (frame : Bytes) (slot : Slot.Ticket) {first second : Result Aim ℕ} {after : List Target} {opened : Opened} {out output : Bytes} → first ≡ second
+    → OpenedAs (settled_by words ticket ranks frame second).0 after slot opened out output
+    → OpenedAs (settled_by words ticket ranks frame first).0 after slot opened out output
+aimed_so words ticket ranks frame slot {first} {second} {after} {opened} {out} {output} is by =
+    subst (λ (a : Result Aim ℕ). OpenedAs (settled_by words ticket ranks frame a).0 after slot opened out output) (sym is) by

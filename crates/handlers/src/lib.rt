@@ -19,7 +19,7 @@ ghost use Rattle.calls.specs.Way.{aimed, aim_numbered, AimKnown, slot_of, look_a
 ghost use Rattle.replies.specs.Leaving.{RoomAt};
 ghost use Rattle.claiming.specs.Missing.{MissesIn};
 ghost use Rattle.quick.specs.declared.Tried.TheVariants.{Missed};
-ghost use Rattle.handlers.specs.Settling.{open_by, NoStep, OpenedAs, StepLeft};
+ghost use Rattle.handlers.specs.Settling.{open_by, NoStep, AskedAs, OpenedBy, OpenedAs, StepLeft};
 
 use calls::Aim;
 use frames::{Answer, Kind, Refusal};
@@ -29,95 +29,24 @@ use replies::Left;
 use tickets::{Target, Ticket, Tickets};
 use words::Limits;
 
-// What an edit or a view that asks for a ticket leaves: the ticket that it opens, if it does, and the place behind the answer.
+// What a frame that is no step leaves: the ticket that it opens, if it does, and the bytes of its answer.
 #[derive(Clone, Copy)]
 pub struct Opened {
     pub ticket: Option<Ticket>,
-    pub filled: usize,
+    pub written: usize,
 }
 
-// Puts the answer to a look at a place of the output, and returns the place after it,
-fn put_look(out: &mut [u8], at: usize, book: &[u64], frame: &[u8]) -> usize
-    requires { RoomAt out.old at × (length book.now ≡ words_in_book) × Whole frame.now look_kind }
-    ensures { PutAt out.old at (answer_frame (look_answer book.now (number16 (part_after_kind frame.now) 0))) result out.new }
+// The answer to a look.
+fn look_answer(book: &[u64; Limits::WORDS], frame: &[u8]) -> Answer
+    requires { Whole frame.now look_kind }
+    ensures { result ≡ look_answer book.now (number16 (part_after_kind frame.now) 0) }
 {
     let part = frames::head::part_after_kind(frame);
     let word = frames::numbers::read16(part, 0);
     if (word as usize) < Limits::WORDS {
-        return replies::put(out, at, Answer::Look(steps::look(book, word)));
+        return Answer::Look(steps::look(book, word));
     }
-    put_refused(out, at, Refusal::Range)
-}
-
-// and a refusal.
-pub fn put_refused(out: &mut [u8], at: usize, refusal: Refusal) -> usize
-    requires { RoomAt out.old at }
-    ensures { PutAt out.old at (answer_frame (Answer.Refused (refusal_number refusal))) result out.new }
-{
-    replies::put(out, at, Answer::Refused(refusal.number()))
-}
-
-// No ticket is opened, and the place behind the answer is known.
-fn unopened(filled: usize) -> Opened
-    ensures { (result.ticket ≡ None) × (result.filled ≡ filled) }
-{
-    Opened {
-        ticket: None,
-        filled: filled,
-    }
-}
-
-fn open_edit(
-    targets: &mut [Target; Tickets::ROOM],
-    ranks: &AcceptedRanks,
-    kind: Kind,
-    part: &[u8],
-    out: &mut [u8],
-    at: usize,
-) -> Opened
-    requires { EditFields part.now (kind_number kind) × RoomAt out.old at }
-    ensures { (ticket : Slot.Ticket) → OpenedAs (open_settled (gathered targets.old ticket) ranks.now (read_edit (kind_number kind) part.now)) targets.old targets.new ticket result out.old at out.new }
-{
-    match decoder::read_edit(kind, part) {
-        Ok(edit) => {
-            let n = opening::open(targets, ranks, edit);
-            let filled = replies::put(out, at, Answer::Standing(n));
-            Opened {
-                ticket: Some(Ticket::edit(n)),
-                filled: filled,
-            }
-        }
-        Err(refusal) => {
-            let filled = put_refused(out, at, refusal);
-            unopened(filled)
-        }
-    }
-}
-
-fn open_view(
-    targets: &mut [Target; Tickets::ROOM],
-    ranks: &AcceptedRanks,
-    part: &[u8],
-    out: &mut [u8],
-    at: usize,
-) -> Opened
-    requires { ViewFields part.now × RoomAt out.old at }
-    ensures { (ticket : Slot.Ticket) → OpenedAs (view_settled (gathered targets.old ticket) ranks.now (view_read (number16 part.now 2) (view_words_in part.now))) targets.old targets.new ticket result out.old at out.new }
-{
-    match decoder::read_view(part) {
-        Ok(view) => {
-            opening::open_view(targets, ranks, view);
-            let filled = replies::put(out, at, Answer::Standing(view.n));
-            Opened {
-                ticket: Some(Ticket::view(view.n)),
-                filled: filled,
-            }
-        }
-        Err(refusal) => {
-            let filled = put_refused(out, at, refusal);
-            unopened(filled)
-        }
-    }
+    Answer::Refused(Refusal::Range.number())
 }
 
 // Whether a slot passes: in a table of which that is known it is not tested again.
@@ -131,7 +60,7 @@ fn known_well_made(targets: &[Target; Tickets::ROOM], ticket: Ticket, known: boo
     making::slot_well_made(targets, ticket)
 }
 
-// A team's frame that is no step: refused over a ticket, else an edit or a view that asks for one.
+// The ticket that a team's frame asks for, its targets stored: refused over another, and else if its fields are.
 fn open(
     targets: &mut [Target; Tickets::ROOM],
     ranks: &AcceptedRanks,
@@ -139,90 +68,141 @@ fn open(
     frame: &[u8],
     kind: Kind,
     team: u16,
-    out: &mut [u8],
-    at: usize,
-) -> Opened
-    requires { AimKnown frame.now (Ok (aimed (Aim.Team kind team))) × NoStep (Ok (aimed (Aim.Team kind team))) × RoomAt out.old at }
-    ensures { OpenedAs (open_by (gathered targets.old ticket) ranks.now (part_after_kind frame.now) (kind_number kind)) targets.old targets.new ticket result out.old at out.new }
+) -> Result<Ticket, Refusal>
+    requires { AimKnown frame.now (Ok (aimed (Aim.Team kind team))) × NoStep (Ok (aimed (Aim.Team kind team))) }
+    ensures { AskedAs (open_by (gathered targets.old ticket) ranks.now (part_after_kind frame.now) (kind_number kind)) targets.new ticket result }
 {
     if ticket.stands() {
         if making::slot_well_made(targets, ticket) {
-            let filled = put_refused(out, at, Refusal::Standing);
-            return unopened(filled);
+            return Err(Refusal::Standing);
         }
-        let filled = put_refused(out, at, Refusal::Ticket);
-        return unopened(filled);
+        return Err(Refusal::Ticket);
     }
     let part = frames::head::part_after_kind(frame);
     if kind.is_edit() {
-        return open_edit(targets, ranks, kind, part, out, at);
+        let edit = decoder::read_edit(kind, part)?;
+        let n = opening::open(targets, ranks, edit);
+        return Ok(Ticket::edit(n));
     }
-    open_view(targets, ranks, part, out, at)
+    let view = decoder::read_view(part)?;
+    opening::open_view(targets, ranks, view);
+    Ok(Ticket::view(view.n))
 }
 
-// A frame that is no team's step: it changes no word.
+// The answer to a frame that asks for a ticket.
+fn settle(asked: Result<Ticket, Refusal>, out: &mut [u8; Answer::LONGEST]) -> Opened
+    ensures { OpenedBy asked result out.old out.new }
+{
+    match asked {
+        Ok(ticket) => Opened {
+            ticket: Some(ticket),
+            written: encoder::write(out, Answer::Standing(ticket.n)),
+        },
+        Err(refusal) => Opened {
+            ticket: None,
+            written: encoder::write(out, Answer::Refused(refusal.number())),
+        },
+    }
+}
+
+// What a frame that is no team's step leaves, its answer in the room for one.
+fn answer_other(
+    book: &[u64; Limits::WORDS],
+    targets: &mut [Target; Tickets::ROOM],
+    ranks: &AcceptedRanks,
+    ticket: Ticket,
+    frame: &[u8],
+    aim: Result<Aim, Refusal>,
+    out: &mut [u8; Answer::LONGEST],
+) -> Opened
+    requires { AimKnown frame.now (aim_numbered aim) × NoStep (aim_numbered aim) }
+    ensures { OpenedAs (settled_by book.now (gathered targets.old ticket) ranks.now frame.now (aim_numbered aim)).0 targets.new ticket result out.old out.new }
+{
+    let aim = match aim {
+        Ok(aim) => aim,
+        Err(refusal) => return settle(Err(refusal), out),
+    };
+    match aim {
+        Aim::Look => Opened {
+            ticket: None,
+            written: encoder::write(out, look_answer(book, frame)),
+        },
+        Aim::Team(kind, team) => {
+            let asked = open(targets, ranks, ticket, frame, kind, team);
+            settle(asked, out)
+        }
+    }
+}
+
+// A frame that is no team's step: it changes no word. Its answer is at the front of the output.
 pub fn other_frame(
-    book: &[u64],
+    book: &[u64; Limits::WORDS],
     targets: &mut [Target; Tickets::ROOM],
     ranks: &AcceptedRanks,
     ticket: Ticket,
     frame: &[u8],
     aim: Result<Aim, Refusal>,
     out: &mut [u8],
-    at: usize,
 ) -> Opened
-    requires { (length book.now ≡ words_in_book) × AimKnown frame.now (aim_numbered aim) × NoStep (aim_numbered aim) × RoomAt out.old at }
-    ensures { OpenedAs (settled_by book.now (gathered targets.old ticket) ranks.now frame.now (aim_numbered aim)).0 targets.old targets.new ticket result out.old at out.new }
+    requires { AimKnown frame.now (aim_numbered aim) × NoStep (aim_numbered aim) × (longest_answer ≤ length out.old) }
+    ensures { OpenedAs (settled_by book.now (gathered targets.old ticket) ranks.now frame.now (aim_numbered aim)).0 targets.new ticket result out.old out.new }
 {
-    let aim = match aim {
-        Ok(aim) => aim,
-        Err(refusal) => {
-            let filled = put_refused(out, at, refusal);
-            return unopened(filled);
-        }
+    let Some(room) = out.first_chunk_mut() else {
+        unreachable!()
     };
-    match aim {
-        Aim::Look => {
-            let filled = put_look(out, at, book, frame);
-            unopened(filled)
-        }
-        Aim::Team(kind, team) => open(targets, ranks, ticket, frame, kind, team, out, at),
-    }
+    answer_other(book, targets, ranks, ticket, frame, aim, room)
 }
 
-fn refuse(ticket: Ticket, refusal: Refusal, out: &mut [u8], at: usize) -> Left
-    requires { RoomAt out.old at }
-    ensures { (result.ticket ≡ ticket) × PutAt out.old at (answer_frame (Answer.Refused (refusal_number refusal))) result.filled out.new }
+fn refuse(ticket: Ticket, refusal: Refusal, out: &mut [u8; Answer::LONGEST]) -> Left
+    ensures { (result.ticket ≡ ticket) × ((result.written, out.new) ≡ written out.old (answer_frame (Answer.Refused (refusal_number refusal)))) }
 {
-    let filled = put_refused(out, at, refusal);
     Left {
-        ticket: ticket,
-        filled: filled,
+        ticket,
+        written: encoder::write(out, Answer::Refused(refusal.number())),
     }
 }
 
-// A step that does not go through on the fast way: a claim that missed there, or one that was not tried there.
+// What a step off the fast way leaves, its answer in the room for one.
+fn answer_step(
+    book: &mut [u64; Limits::WORDS],
+    targets: &mut [Target; Tickets::ROOM],
+    ticket: Ticket,
+    team: usize,
+    tried: Tried,
+    known: bool,
+    out: &mut [u8; Answer::LONGEST],
+) -> Left
+    requires { (team < team_count) × ((found : ℕ) → tried ≡ Missed found → MissesIn targets.old ticket) × (known ≡ true → SlotWellMade (gathered targets.old ticket)) }
+    ensures { StepLeft book.old targets.old team ticket tried result.ticket book.new targets.new out.old result.written out.new }
+{
+    if let Tried::Missed(found) = tried {
+        return claiming::missed(targets, ticket, found, out);
+    }
+    if !ticket.stands() {
+        return refuse(ticket, Refusal::NoTicket, out);
+    }
+    if !known_well_made(targets, ticket, known) {
+        return refuse(ticket, Refusal::Ticket, out);
+    }
+    steps::step(book, targets, ticket, team, out)
+}
+
+// A step that does not go through on the fast way: a claim that missed there, or one that was not tried there. Its answer is at the
+// front of the output.
 pub fn other_step(
-    book: &mut [u64],
+    book: &mut [u64; Limits::WORDS],
     targets: &mut [Target; Tickets::ROOM],
     ticket: Ticket,
     team: usize,
     tried: Tried,
     known: bool,
     out: &mut [u8],
-    at: usize,
 ) -> Left
-    requires { (length book.old ≡ words_in_book) × (team < team_count) × ((found : ℕ) → tried ≡ Missed found → MissesIn targets.old ticket out.old at) × (known ≡ true → SlotWellMade (gathered targets.old ticket)) × RoomAt out.old at }
-    ensures { StepLeft book.old targets.old team ticket tried result.ticket book.new targets.new out.old at result.filled out.new }
+    requires { (team < team_count) × ((found : ℕ) → tried ≡ Missed found → MissesIn targets.old ticket) × (known ≡ true → SlotWellMade (gathered targets.old ticket)) × (longest_answer ≤ length out.old) }
+    ensures { StepLeft book.old targets.old team ticket tried result.ticket book.new targets.new out.old result.written out.new }
 {
-    if let Tried::Missed(found) = tried {
-        return claiming::missed(targets, ticket, found, out, at);
-    }
-    if !ticket.stands() {
-        return refuse(ticket, Refusal::NoTicket, out, at);
-    }
-    if !known_well_made(targets, ticket, known) {
-        return refuse(ticket, Refusal::Ticket, out, at);
-    }
-    steps::step(book, targets, ticket, team, out, at)
+    let Some(room) = out.first_chunk_mut() else {
+        unreachable!()
+    };
+    answer_step(book, targets, ticket, team, tried, known, room)
 }

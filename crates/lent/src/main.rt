@@ -18,8 +18,9 @@ use desk::records::{Call, Records, UnknownTag};
 use desk::text::{Bytes, Targets};
 use desk::{Room, text};
 use legs::{Leg, Measure, Stations};
-use std::io;
+use std::fmt::Display;
 use std::io::{Print, Stdout};
+use std::{fmt, io};
 use tickets::{Phase, Slot, Ticket, Tickets};
 
 enum Tag {
@@ -32,7 +33,7 @@ enum Tag {
     Read,
 }
 
-// A table of its own: no two programs have a tag in common, and what refuses the others is `UnknownTag` for all.
+// A table of its own: each program gives these numbers a meaning of its own, and what refuses the others is `UnknownTag` for all.
 impl TryFrom<u16> for Tag {
     type Error = UnknownTag;
 
@@ -50,20 +51,26 @@ impl TryFrom<u16> for Tag {
     }
 }
 
-fn name_of(phase: Phase) -> &'static str {
-    match phase {
-        Phase::NoTicket => "none",
-        Phase::Claiming => "claiming",
-        Phase::Putting => "putting",
-        Phase::GivingBack => "giving-back",
-        Phase::Viewing => "viewing",
-        Phase::Viewed => "viewed",
+// A phase's name, as a ticket's line has it.
+#[derive(Clone, Copy)]
+struct Name(Phase);
+
+impl Display for Name {
+    fn fmt<W: fmt::Write>(&self, f: &mut fmt::Formatter<W>) -> fmt::Result {
+        f.write_str(match self.0 {
+            Phase::NoTicket => "none",
+            Phase::Claiming => "claiming",
+            Phase::Putting => "putting",
+            Phase::GivingBack => "giving-back",
+            Phase::Viewing => "viewing",
+            Phase::Viewed => "viewed",
+        })
     }
 }
 
 // A ticket and its first n targets, or those that there is room for.
 fn tell_ticket(stdout: Stdout, team: usize, slot: &Slot) -> io::Result<()> {
-    let phase = name_of(slot.ticket.phase());
+    let name = Name(slot.ticket.phase());
     let Ticket {
         tries,
         n,
@@ -73,7 +80,7 @@ fn tell_ticket(stdout: Stdout, team: usize, slot: &Slot) -> io::Result<()> {
     } = slot.ticket;
     let many = Tickets::ROOM.min(n as usize);
     let targets = Targets(&slot.targets[..many]);
-    println!(stdout; "ticket {team} {phase} {n} {claimed} {done} {tries} :{targets}")
+    println!(stdout; "ticket {team} {name} {n} {claimed} {done} {tries} :{targets}")
 }
 
 fn tell_tickets(stdout: Stdout, tickets: &Tickets) -> io::Result<()> {
@@ -159,9 +166,7 @@ impl State {
         let ranks = legs::fixed_ranks();
         let reply = book::call(book, tickets, &ranks, call.carried, out);
         self.tickets = reply.tickets;
-        let returned = reply
-            .written
-            .unwrap_or_else(|refusal| refusal.number() as usize);
+        let returned = desk::returned(reply.written);
         println!(stdout; "returns {returned} :{}", Bytes(out))?;
         text::tell_changes(stdout, &before, &self.words)?;
         tell_tickets(stdout, &self.tickets)
@@ -188,10 +193,8 @@ impl State {
 
 fn main(rt: HostRuntime) -> io::Result<()> {
     let mut buffer = [0u8; Room::INPUT];
-    let input = desk::read_full(rt.stdin(), &mut buffer);
     let mut state = State::fresh();
-    for call in Records::of(input) {
-        state.dispatch(rt.stdout(), call)?;
-    }
-    Ok(())
+    desk::for_each_record(rt.stdin(), &mut buffer, |call| {
+        state.dispatch(rt.stdout(), call)
+    })
 }

@@ -52,7 +52,7 @@ enum Tag {
     Lend,
 }
 
-// A table of its own: no two programs have a tag in common, and what refuses the others is `UnknownTag` for all.
+// A table of its own: each program gives these numbers a meaning of its own, and what refuses the others is `UnknownTag` for all.
 impl TryFrom<u16> for Tag {
     type Error = UnknownTag;
 
@@ -105,14 +105,14 @@ impl Display for Digests<'_> {
     }
 }
 
-fn number_of(outcome: Result<(), Refusal>) -> u16 {
-    match outcome {
-        Ok(()) => 0,
-        Err(refusal) => refusal.number(),
-    }
+// A call without a frame writes nothing.
+fn tell_outcome(stdout: Stdout, outcome: Result<(), Refusal>) -> io::Result<()> {
+    let returned = desk::returned(outcome.map(|()| 0));
+    println!(stdout; "{returned}")
 }
 
 // Room for the ranks lent, of which the first so many are in force.
+// No heap: the room is an array with their number beside it, since a slice would borrow from the state that keeps both.
 #[derive(Clone, Copy)]
 struct Ranks {
     room: [u16; Lent::RANKS],
@@ -208,9 +208,7 @@ impl State {
         let (out, _) = out.split_at_mut(Room::OUTPUT.min(call.number as usize));
         let reply = book::call(book, *tickets, ranks.in_force(), call.carried, out);
         *tickets = reply.tickets;
-        let returned = reply
-            .written
-            .unwrap_or_else(|refusal| refusal.number() as usize);
+        let returned = desk::returned(reply.written);
         println!(stdout; "{returned}{}", Bytes(&out[..returned.min(out.len())]))
     }
 
@@ -269,10 +267,10 @@ impl State {
         match tag {
             Tag::Begin => self.begin(call.number),
             Tag::Frame => self.answer(stdout, call)?,
-            Tag::Fill => println!(stdout; "{}", number_of(self.fill(call)))?,
-            Tag::ComeBack => println!(stdout; "{}", number_of(self.come_back(call)))?,
+            Tag::Fill => tell_outcome(stdout, self.fill(call))?,
+            Tag::ComeBack => tell_outcome(stdout, self.come_back(call))?,
             Tag::Tell => self.tell(stdout)?,
-            Tag::Load => println!(stdout; "{}", number_of(self.load(call)))?,
+            Tag::Load => tell_outcome(stdout, self.load(call))?,
             Tag::Lend => self.ranks = self.ranks.with_carried(call),
         }
         Ok(())
@@ -281,10 +279,8 @@ impl State {
 
 fn main(rt: HostRuntime) -> io::Result<()> {
     let mut buffer = [0u8; Room::INPUT];
-    let input = desk::read_full(rt.stdin(), &mut buffer);
     let mut state = State::new();
-    for call in Records::of(input) {
-        state.dispatch(rt.stdout(), call)?;
-    }
-    Ok(())
+    desk::for_each_record(rt.stdin(), &mut buffer, |call| {
+        state.dispatch(rt.stdout(), call)
+    })
 }

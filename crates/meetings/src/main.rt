@@ -11,7 +11,7 @@
 #![tactic(auto)]
 
 use desk::Room;
-use desk::records::{Call, Records, UnknownTag};
+use desk::records::{Call, UnknownTag};
 use desk::text::Numbers;
 use frames::Refusal;
 use std::io;
@@ -23,7 +23,7 @@ enum Tag {
     Meet,
 }
 
-// A table of its own: no two programs have a tag in common, and what refuses the others is `UnknownTag` for all.
+// A table of its own: each program gives these numbers a meaning of its own, and what refuses the others is `UnknownTag` for all.
 impl TryFrom<u16> for Tag {
     type Error = UnknownTag;
 
@@ -103,13 +103,11 @@ impl State {
 
 fn main(rt: HostRuntime) -> io::Result<()> {
     let mut buffer = [0u8; Room::INPUT];
-    let input = desk::read_full(rt.stdin(), &mut buffer);
     let mut state = State {
         words: [0; Room::WORDS],
         space: [0; Output::WORDS],
     };
-    for call in Records::of(input) {
-        state.dispatch(rt.stdout(), call)?;
-    }
-    Ok(())
+    desk::for_each_record(rt.stdin(), &mut buffer, |call| {
+        state.dispatch(rt.stdout(), call)
+    })
 }

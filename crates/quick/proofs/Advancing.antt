@@ -267,14 +267,14 @@ quick_is_step words targets team slot quick result after claims may is went =
     ∙ (λ i. (goes words targets team slot quick result after may is few here.0 claims here.1 i, after))
 
 pub quick_missed : QuickMissed
-quick_missed words targets team slot quick result after word left out at place output may is missed leaves =
+quick_missed words targets team slot quick result after word left out count output may is missed leaves =
     let few = missed_few words targets team slot quick result after may is word missed in
     let here = missed_here words targets team slot quick result after may is few word missed in
     let claims = missed_claims words targets team slot quick result after may is few here.0 in
     let next = swap_tried words (gathered targets slot) team in
     let read = (swap_of words next.word next.expected next.desired).found in
     let other = (missed_value read next.expected here.0).1 in
-    subst (λ step. LeftBy step targets left after out at place output)
+    subst (λ step. LeftBy step targets left after out count output)
     (sym (step_is words targets team slot quick result after may is few
     ∙ (λ i. (miss_settles targets team slot (may few) read claims (λ same. other (same ∙ sym (quoted_next targets team slot (may few) claims words))) i, after))))
-    (subst (λ (w : ℕ). MissLeft targets slot w left out at place output) (sym here.1) leaves after)
+    (subst (λ (w : ℕ). MissLeft targets slot w left out count output) (sym here.1) leaves after)

@@ -12,7 +12,7 @@ use Rattle.tickets.specs.declared.Ticket as Slot
 use Rattle.frames.specs.Numbers.{Bytes, number16, bytes16, bytes32}
 use Rattle.frames.specs.Answers.{frame_of, answer_frame}
 use Rattle.frames.proofs.Bytes.{half16}
-use Rattle.replies.specs.Leaving.{Answered}
+use Rattle.quick.specs.Quick.{ToldAt}
 use Rattle.replies.proofs.Placing.{stored_at}
 
 -- Four bytes stored behind four others are stored with them.
@@ -84,19 +84,19 @@ module _ (out half last : Bytes) (at many : ℕ) (inside : at + 8 ≤ length out
   pub told : (granted claims : Bool) (tries : ℕ)
       → half ≡ sets out at (bytes32 (head_by granted claims))
       → last ≡ sets half (at + 4) (bytes32 (fields_by granted tries many (number16 out (at + 6))))
-      → Answered out at (answer_by granted claims tries many) (at + 2 + cond granted 6 4) last
+      → ToldAt out at (answer_by granted claims tries many) (at + 2 + cond granted 6 4) last
   unfolding answer_frame
   told true claims tries one two =
       let long : at + 8 ≡ at + 2 + 6 = omega arith in
-      subst (λ (place : ℕ). Answered out at (Granted tries) place last) long
+      subst (λ (place : ℕ). ToldAt out at (Granted tries) place last) long
       (stored_at out at (frame_of 134 (bytes32 tries)) last (omega (arith, inside)) (both_stored out half last at 8781830 tries one two))
   told false true tries one two =
       let long : at + 6 ≡ at + 2 + 4 = omega arith in
-      subst (λ (place : ℕ). Answered out at (Claimed many) place last) long
+      subst (λ (place : ℕ). ToldAt out at (Claimed many) place last) long
       (stored_at out at (frame_of 129 (bytes16 many)) last (omega (arith, inside)) (short_told 129 one two refl))
   told false false tries one two =
       let long : at + 6 ≡ at + 2 + 4 = omega arith in
-      subst (λ (place : ℕ). Answered out at (Put many) place last) long
+      subst (λ (place : ℕ). ToldAt out at (Put many) place last) long
       (stored_at out at (frame_of 132 (bytes16 many)) last (omega (arith, inside)) (short_told 132 one two refl))
 
 -- As the code has it: how many is chosen first, and the two bytes behind are read.
@@ -112,10 +112,10 @@ pub told_by_lem : (out half last : Bytes) (at : ℕ) (granted claims : Bool) (af
     → half ≡ sets out at (bytes32 head)
     → last ≡ sets half (at + 4) (bytes32 fields)
     → long ≡ cond granted 6 4
-    → Answered out at (cond granted (Granted after.tries) (cond claims (Claimed after.claimed) (Put after.done))) (at + 2 + long) last
+    → ToldAt out at (cond granted (Granted after.tries) (cond claims (Claimed after.claimed) (Put after.done))) (at + 2 + long) last
 told_by_lem out half last at granted claims after kept many inner head fields long inside bytes small reads chosen heads heads_all says one two counts =
-    subst (λ (k : ℕ). Answered out at (cond granted (Granted after.tries) (cond claims (Claimed after.claimed) (Put after.done))) (at + 2 + k) last) (sym counts)
-    (subst (λ answer. Answered out at (cond granted (Granted after.tries) answer) (at + 2 + cond granted 6 4) last) (either claims)
+    subst (λ (k : ℕ). ToldAt out at (cond granted (Granted after.tries) (cond claims (Claimed after.claimed) (Put after.done))) (at + 2 + k) last) (sym counts)
+    (subst (λ answer. ToldAt out at (cond granted (Granted after.tries) answer) (at + 2 + cond granted 6 4) last) (either claims)
     (told out half last at (cond claims after.claimed after.done) inside (omega (arith, small, chosen)) (bytes (at + 6)) (bytes (at + 6 + 1)) granted claims after.tries
     (one ∙ ap (λ (h : ℕ). sets out at (bytes32 h)) (heads_all ∙ ap (cond granted 8781830) heads))
     (two ∙ ap (λ (f : ℕ). sets half (at + 4) (bytes32 f)) (says ∙ (λ i. cond granted after.tries (chosen i + 65536 * (reads ∙ ap (number16 out) there) i))))))

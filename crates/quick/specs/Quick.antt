@@ -12,6 +12,8 @@ use Rattle.tickets.specs.Tickets.{Ticket, well_made}
 use Rattle.tickets.specs.Steps.{Stepped, stepped, swap_tried, step_of}
 use Rattle.tickets.specs.Table.{claims_in, phase_of, tried_slot, gathered}
 use Rattle.frames.specs.Numbers.{Bytes}
+use Rattle.frames.specs.Answers.{answer_frame, PutAt}
+use Rattle.frames.specs.declared.Answer.TheVariants as Told
 use Rattle.replies.specs.Leaving.{LeftBy}
 use Rattle.claiming.specs.Missing.{MissLeft}
 use Rattle.quick.specs.declared.Tried.{Tried}
@@ -77,6 +79,10 @@ told_answer claims after =
     cond (eqb after.done after.n) (Answer.Granted after.tries)
     (cond claims (Answer.Claimed after.claimed) (Answer.Put after.done))
 
+-- The answer to a step, put at a place of an output.
+abbrev pub ToldAt : Bytes → ℕ → StepAnswer → ℕ → Bytes → Type 0
+ToldAt out at answer place output = PutAt out at (answer_frame (Told.Step answer)) place output
+
 -- Statement: a well-made ticket with fewer done than `quick_swaps` may go the fast way,
 abbrev pub QuickByCount : Type 0
 QuickByCount =
@@ -123,9 +129,9 @@ QuickIsStep =
 -- Statement: where a claim was tried and missed, the step is what `missed` leaves.
 abbrev pub QuickMissed : Type 0
 QuickMissed =
-    (words : Words) (targets : List Target) (team : ℕ) (slot : Slot.Ticket) (quick : ℕ) (result : Tried) (after : Words) (found : ℕ) (left : Slot.Ticket) (out : Bytes) (at place : ℕ) (output : Bytes)
+    (words : Words) (targets : List Target) (team : ℕ) (slot : Slot.Ticket) (quick : ℕ) (result : Tried) (after : Words) (found : ℕ) (left : Slot.Ticket) (out : Bytes) (count : ℕ) (output : Bytes)
     → (slot.done < quick → Quick targets slot)
     → ◌≡◌ {A = Tried × Words} (result, after) (quick_tried words targets team slot quick)
     → result ≡ Missed found
-    → MissLeft targets slot found left out at place output
-    → LeftBy (step_of words (gathered targets slot) team) targets left after out at place output
+    → MissLeft targets slot found left out count output
+    → LeftBy (step_of words (gathered targets slot) team) targets left after out count output

@@ -5,13 +5,14 @@ ghost use Rattle.std.specs.Prelude.{◌≡◌, cond, ◌+◌, ◌*◌, ◌<◌, 
 ghost use Rattle.words.specs.Words.{Words, words_in_book, team_count};
 ghost use Rattle.tickets.specs.Steps.{swap_tried};
 ghost use Rattle.tickets.specs.Table.{gathered};
-ghost use Rattle.replies.specs.Leaving.{RoomAt, Answered};
-ghost use Rattle.quick.specs.Quick.{Quick, is_plain, quick_swaps, quick_tried, advanced_by, AdvancesBy, told_answer};
+ghost use Rattle.replies.specs.Leaving.{RoomAt};
+ghost use Rattle.quick.specs.Quick.{Quick, is_plain, quick_swaps, quick_tried, advanced_by, AdvancesBy, told_answer, ToldAt};
 
 use encoder::AnswerKind;
 use frames::Frame;
 use frames::numbers::Bits;
 use tickets::{Kind, SwapTried, Target, Ticket, Tickets};
+use words::Limits;
 
 // What came of the next swap of an edit on the fast way: it went through, told with whether it was a claim; or it was a claim
 // that missed, told with what it found; or none was tried.
@@ -71,13 +72,13 @@ fn swap_at(targets: &[Target; Tickets::ROOM], team: usize, ticket: Ticket) -> Sw
 
 // Tries an edit's next swap. A put counts as done whatever it found.
 pub fn try_quick(
-    book: &mut [u64],
+    book: &mut [u64; Limits::WORDS],
     targets: &[Target; Tickets::ROOM],
     ticket: Ticket,
     team: usize,
     quick: u16,
 ) -> Tried
-    requires { (length book.old ≡ words_in_book) × (team < team_count) × (ticket.done < quick → Quick targets.now ticket) }
+    requires { (team < team_count) × (ticket.done < quick → Quick targets.now ticket) }
     ensures { (result, book.new) ≡ quick_tried book.old targets.now team ticket quick }
 {
     if quick <= ticket.done {
@@ -125,7 +126,7 @@ impl Told {
 // The answer to a swap that went through: six bytes, or eight where it is Granted; the bytes behind them stay.
 pub fn put_told(out: &mut [u8], at: usize, claims: bool, after: Ticket) -> usize
     requires { RoomAt out.old at }
-    ensures { Answered out.old at (told_answer claims after) result out.new }
+    ensures { ToldAt out.old at (told_answer claims after) result out.new }
 {
     let granted = after.done == after.n;
     let kept = frames::numbers::read16(out, at + Frame::HEAD + Frame::FIELD) as u32;

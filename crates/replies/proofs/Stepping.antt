@@ -1,9 +1,7 @@
 -- What a step leaves, from the swap that it made and what that settles.
-use Prim.Native.Nat.{ℕ, ◌<◌}
+use Prim.Native.Nat.{ℕ}
 use mathlib.Core.Path.{◌≡◌, refl, sym, ap, subst, ◌∙◌}
 use mathlib.Core.List.{List}
-use native.Mathlib.Omega.{arith}
-use lib.ListN.{length}
 use Rattle.words.specs.Words.{Words, swap_of}
 use Rattle.tickets.specs.declared.Phase.{Phase}
 use Rattle.tickets.specs.declared.SwapTried.{SwapTried}
@@ -11,22 +9,22 @@ use Rattle.tickets.specs.declared.Target.{Target}
 use Rattle.tickets.specs.declared.Ticket as Slot
 use Rattle.tickets.specs.Tickets.{Ticket}
 use Rattle.tickets.specs.Steps.{Stepped, swap_tried_in, settled_in, step_of}
-use Rattle.tickets.specs.Table.{target_standing, standing, gathered}
+use Rattle.tickets.specs.Table.{standing, gathered}
 use Rattle.tickets.proofs.Settled.{tried_in, settled_in_lem, step_by_lem}
 use Rattle.frames.specs.Numbers.{Bytes}
 use Rattle.replies.specs.Leaving.{Answered, StepsFrom, LeftBy}
-use Rattle.replies.proofs.Standing.{is_standing, standing_phase, target_fits_there}
+use Rattle.replies.proofs.Standing.{is_standing, standing_phase}
 
 -- By what the step comes to.
-pub left_as : (result step : Stepped × Words) (targets : List Target) (slot : Slot.Ticket) (out : Bytes) (at place : ℕ) (output : Bytes)
+pub left_as : (result step : Stepped × Words) (targets : List Target) (slot : Slot.Ticket) (out : Bytes) (place : ℕ) (output : Bytes)
     → result ≡ step
     → gathered targets slot ≡ result.0.ticket
-    → Answered out at result.0.answer place output
-    → LeftBy step targets slot result.1 out at place output
-left_as result step targets slot out at place output is left answered =
-    subst (λ s. LeftBy s targets slot result.1 out at place output) is record { ticket_left = left; words_left = refl; answered = answered }
+    → Answered out result.0.answer place output
+    → LeftBy step targets slot result.1 out place output
+left_as result step targets slot out place output is left answered =
+    subst (λ s. LeftBy s targets slot result.1 out place output) is record { ticket_left = left; words_left = refl; answered = answered }
 
-module _ (phase : Phase) (words : Words) (targets : List Target) (team : ℕ) (slot : Slot.Ticket) (out : Bytes) (at : ℕ) (known : StepsFrom phase words targets team slot out at) where
+module _ (phase : Phase) (words : Words) (targets : List Target) (team : ℕ) (slot : Slot.Ticket) (out : Bytes) (known : StepsFrom phase targets team slot) where
   -- A step in a known phase is its swap, and what that found settles.
   pub step_made : (tried : SwapTried) (found : ℕ) (after : Words) (result : Stepped)
       → tried ≡ swap_tried_in phase words (standing targets slot) team
@@ -52,13 +50,7 @@ module _ (phase : Phase) (words : Words) (targets : List Target) (team : ℕ) (s
       → after ≡ (swap_of words tried.word tried.expected tried.desired).words
       → result ≡ settled_in phase (standing targets slot) found
       → gathered numbers left ≡ result.ticket
-      → Answered out at result.answer place output
-      → LeftBy (step_of words (gathered targets slot) team) numbers left after out at place output
+      → Answered out result.answer place output
+      → LeftBy (step_of words (gathered targets slot) team) numbers left after out place output
   step_left tried found after result numbers left place output tries finds leaves settles ticket answer =
-      left_as (result, after) (step_of words (gathered targets slot) team) numbers left out at place output (step_made tried found after result tries finds leaves settles) ticket answer
-
-  -- The target of a step is in the book.
-  pub target_inside : (k : ℕ) → k < slot.n → (target : Target) → target ≡ target_standing targets k → target.word < length words
-  target_inside k below target is =
-      let inside = (target_fits_there targets slot known.steps_in.made k below).inside in
-      omega (arith, ap (λ (one : Target). one.word) is, inside, known.steps_in.book)
+      left_as (result, after) (step_of words (gathered targets slot) team) numbers left out place output (step_made tried found after result tries finds leaves settles) ticket answer

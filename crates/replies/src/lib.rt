@@ -1,7 +1,7 @@
-// What every step of a ticket takes and leaves: a target read from the table, an answer put at a place of the output.
+// What every step of a ticket takes and leaves: a target of its team, an answer put at a place of the output.
 #![tactic(auto)]
 
-ghost use Rattle.std.specs.Prelude.{◌≡◌, ◌<◌, length};
+ghost use Rattle.std.specs.Prelude.{◌≡◌, ◌<◌};
 ghost use Rattle.words.specs.Words.{words_in_book, team_count, mark_of, holder_of, swap_of};
 ghost use Rattle.tickets.specs.declared.StepAnswer.TheVariants.{Waiting};
 ghost use Rattle.tickets.specs.Table.{target_room, target_standing, tried_slot};
@@ -10,12 +10,13 @@ ghost use Rattle.replies.specs.Leaving.{RoomAt, Answered};
 
 use frames::Answer;
 use tickets::{StepAnswer, Target, Ticket, Tickets};
+use words::Limits;
 
-// What a step leaves: its ticket, and the place behind its answer.
+// What a step leaves: its ticket, and the bytes of its answer.
 #[derive(Clone, Copy)]
 pub struct Left {
     pub ticket: Ticket,
-    pub filled: usize,
+    pub written: usize,
 }
 
 // Target k of a slot, whose word is in the book.
@@ -28,8 +29,8 @@ pub fn target_at(targets: &[Target; Tickets::ROOM], k: u16) -> Target
 }
 
 // A word that a team holds released: its mark is exchanged for a value.
-pub fn release(book: &mut [u64], team: usize, word: u64, value: u64)
-    requires { (team < team_count) × (word < length book.old) }
+pub fn release(book: &mut [u64; Limits::WORDS], team: usize, word: u64, value: u64)
+    requires { (team < team_count) × (word < words_in_book) }
     ensures { book.new ≡ (swap_of book.old word (mark_of team) value).words }
 {
     words::conditional_swap(book, word as usize, words::mark(team as u16), value);
@@ -45,25 +46,23 @@ pub fn put(out: &mut [u8], at: usize, answer: Answer) -> usize
     at + encoder::write(&mut out[at..], answer)
 }
 
-// The ticket that a step leaves, and the step's answer, put at a place of the output.
+// The ticket that a step leaves, and the step's answer, written where there is room for any.
 #[inline(always)]
-pub fn leave(ticket: Ticket, answer: StepAnswer, out: &mut [u8], at: usize) -> Left
-    requires { RoomAt out.old at }
+pub fn leave(ticket: Ticket, answer: StepAnswer, out: &mut [u8; Answer::LONGEST]) -> Left
     ensures ticket { result.ticket ≡ ticket }
-    ensures answer { Answered out.old at answer result.filled out.new }
+    ensures answer { Answered out.old answer result.written out.new }
 {
     Left {
         ticket,
-        filled: put(out, at, Answer::Step(answer)),
+        written: encoder::write(out, Answer::Step(answer)),
     }
 }
 
 // A claim that found a mark: the ticket waits, and its answer tells the holder.
-pub fn waited(ticket: Ticket, word: u16, found: u64, out: &mut [u8], at: usize) -> Left
-    requires { RoomAt out.old at }
+pub fn waited(ticket: Ticket, word: u16, found: u64, out: &mut [u8; Answer::LONGEST]) -> Left
     ensures ticket { result.ticket ≡ tried_slot ticket ticket.kind ticket.claimed ticket.done }
-    ensures answer { Answered out.old at (Waiting word (holder_of found)) result.filled out.new }
+    ensures answer { Answered out.old (Waiting word (holder_of found)) result.written out.new }
 {
     let holder = words::holder(found);
-    leave(ticket.wait(), StepAnswer::Waiting(word, holder), out, at)
+    leave(ticket.wait(), StepAnswer::Waiting(word, holder), out)
 }

@@ -9,8 +9,7 @@ ghost use Rattle.calls.specs.Stream.{stream_of, streamed_of, Roomy};
 ghost use Rattle.calls.specs.Pieces.{goes_on};
 
 use calls::{Stop, Streamed};
-use frames::Refusal;
-use handlers::put_refused;
+use frames::{Answer, Refusal};
 use std::ops::ControlFlow;
 use tickets::Tickets;
 use words::Limits;
@@ -73,7 +72,7 @@ impl Server<'_, '_> {
         ensures { ((result, out.new) ≡ end_of out.old have) × (result ≤ length out.old) }
     {
         if 0 < have {
-            return put_refused(out, 0, Refusal::Torn);
+            return replies::put(out, 0, Answer::Refused(Refusal::Torn.number()));
         }
         0
     }
@@ -94,7 +93,11 @@ impl Server<'_, '_> {
         let answered = input.stream(book, tickets, ranks, out);
         self.tickets = answered.tickets;
         if !goes_on(answered.stop) {
-            let refused = put_refused(self.out, answered.written, Refusal::Torn);
+            let refused = replies::put(
+                self.out,
+                answered.written,
+                Answer::Refused(Refusal::Torn.number()),
+            );
             return ControlFlow::Break(refused);
         }
         self.input.consume(answered.consumed);

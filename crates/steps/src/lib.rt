@@ -6,28 +6,29 @@ ghost use Rattle.tickets.specs.Steps.{step_of, look_of};
 ghost use Rattle.tickets.specs.Table.{gathered};
 ghost use Rattle.replies.specs.Leaving.{StepsIn, LeftBy};
 
+use frames::Answer;
 use replies::Left;
 use tickets::{Phase, Target, Ticket, Tickets};
+use words::Limits;
 
 // A step of a team whose ticket is well made, by its phase: one swap. A match, since what each may write is told by its own contract; a
 // table of closures would hide it.
 pub fn step(
-    book: &mut [u64],
+    book: &mut [u64; Limits::WORDS],
     targets: &mut [Target; Tickets::ROOM],
     ticket: Ticket,
     team: usize,
-    out: &mut [u8],
-    at: usize,
+    out: &mut [u8; Answer::LONGEST],
 ) -> Left
-    requires { StepsIn book.old targets.old team ticket out.old at }
-    ensures { LeftBy (step_of book.old (gathered targets.old ticket) team) targets.new result.ticket book.new out.old at result.filled out.new }
+    requires { StepsIn targets.old team ticket }
+    ensures { LeftBy (step_of book.old (gathered targets.old ticket) team) targets.new result.ticket book.new out.old result.written out.new }
 {
     match ticket.phase() {
-        Phase::Claiming => claiming::claim(book, targets, ticket, team, out, at),
-        Phase::Putting => releasing::put(book, targets, ticket, team, out, at),
-        Phase::GivingBack => releasing::give_back(book, targets, ticket, team, out, at),
-        Phase::Viewing => views::view_claim(book, targets, ticket, team, out, at),
-        Phase::Viewed => views::view_give_back(book, targets, ticket, team, out, at),
+        Phase::Claiming => claiming::claim(book, targets, ticket, team, out),
+        Phase::Putting => releasing::put(book, targets, ticket, team, out),
+        Phase::GivingBack => releasing::give_back(book, targets, ticket, team, out),
+        Phase::Viewing => views::view_claim(book, targets, ticket, team, out),
+        Phase::Viewed => views::view_give_back(book, targets, ticket, team, out),
         Phase::NoTicket => unreachable!(),
     }
 }

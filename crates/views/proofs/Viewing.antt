@@ -29,15 +29,15 @@ use Rattle.replies.proofs.Stepping.{step_left}
 use Rattle.views.proofs.Seeing.{standing_seen}
 
 -- A view that gives back names at most so many words.
-pub few_named : (words : Words) (targets : List Target) (team : ℕ) (slot : Slot.Ticket) (out : Bytes) (at : ℕ) → StepsFrom Viewed words targets team slot out at → slot.n ≤ most_named
-few_named words targets team slot out at known =
+pub few_named : (words : Words) (targets : List Target) (team : ℕ) (slot : Slot.Ticket) (out : Bytes) → StepsFrom Viewed targets team slot → slot.n ≤ most_named
+few_named words targets team slot out known =
     let well = known.steps_in.made in
     let many = (well_made_parts (standing targets slot) (well_standing targets slot well)).many in
     let phase : (standing targets slot).phase ≡ Viewed = standing_phase targets slot well ∙ known.phase_known in
     let (_, (most, _)) = split (leb 1 slot.n ∷ leb slot.n most_named ∷ []) (sym (ap (λ p. within 1 (most_of p) slot.n) phase) ∙ many) in
     leb-true _ _ most
 
-module _ (words : Words) (targets : List Target) (team : ℕ) (slot : Slot.Ticket) (out : Bytes) (at : ℕ) (known : StepsFrom Viewing words targets team slot out at) where
+module _ (words : Words) (targets : List Target) (team : ℕ) (slot : Slot.Ticket) (out : Bytes) (known : StepsFrom Viewing targets team slot) where
   -- The next target is the first not claimed.
   pub next_unclaimed : slot.claimed < slot.n
   next_unclaimed = (phase_tells slot Viewing known.phase_known).1.1
@@ -59,34 +59,34 @@ module _ (words : Words) (targets : List Target) (team : ℕ) (slot : Slot.Ticke
     -- It waits where it found a mark,
     pub view_waits : is_held found ≡ true
         → left ≡ tried_slot slot slot.kind slot.claimed slot.done
-        → Answered out at (Answer.Waiting next.word (holder_of found)) place output
-        → LeftBy (step_of words (gathered targets slot) team) targets left after out at place output
+        → Answered out (Answer.Waiting next.word (holder_of found)) place output
+        → LeftBy (step_of words (gathered targets slot) team) targets left after out place output
     view_waits held is answer =
-        step_left Viewing words targets team slot out at known _ found after (view_waited there found) targets left place output
+        step_left Viewing words targets team slot out known _ found after (view_waited there found) targets left place output
         swap_is finds leaves
         (sym (settled_view_waited there found held))
         (ap (gathered targets) is
         ∙ gathered_tried targets slot slot.kind slot.claimed slot.done (made_stands targets slot known.steps_in.made)
         ∙ ap (λ p. advanced there p slot.claimed slot.done) (standing_phase targets slot known.steps_in.made ∙ known.phase_known))
-        (subst (λ (one : Target). Answered out at (Answer.Waiting one.word (holder_of found)) place output) next_read answer)
+        (subst (λ (one : Target). Answered out (Answer.Waiting one.word (holder_of found)) place output) next_read answer)
 
     -- and else notes the value.
     pub view_notes : (numbers : List Target) → is_held found ≡ false → slot.claimed < length targets
         → numbers ≡ noted_at targets slot.claimed found
         → left ≡ tried_slot slot slot.kind (slot.claimed + 1) slot.done
-        → Answered out at (Answer.Claimed left.claimed) place output
-        → LeftBy (step_of words (gathered targets slot) team) numbers left after out at place output
+        → Answered out (Answer.Claimed left.claimed) place output
+        → LeftBy (step_of words (gathered targets slot) team) numbers left after out place output
     view_notes numbers value inside noted is answer =
         let tells = phase_tells slot Viewing known.phase_known in
-        step_left Viewing words targets team slot out at known _ found after (view_claimed there found) numbers left place output
+        step_left Viewing words targets team slot out known _ found after (view_claimed there found) numbers left place output
         swap_is finds leaves
         (sym (settled_view_claimed there found value))
         ((λ i. gathered (noted i) (is i))
         ∙ gathered_viewed targets slot found next_unclaimed (few_targets targets slot known.steps_in.made) inside tells.0 tells.1.0
         ∙ ap (λ (t : Ticket). (view_claimed t found).ticket) (is_standing targets slot known.steps_in.made))
-        (subst (λ (s : Slot.Ticket). Answered out at (Answer.Claimed s.claimed) place output) is answer)
+        (subst (λ (s : Slot.Ticket). Answered out (Answer.Claimed s.claimed) place output) is answer)
 
-module _ (words : Words) (targets : List Target) (team : ℕ) (slot : Slot.Ticket) (out : Bytes) (at : ℕ) (known : StepsFrom Viewed words targets team slot out at) where
+module _ (words : Words) (targets : List Target) (team : ℕ) (slot : Slot.Ticket) (out : Bytes) (known : StepsFrom Viewed targets team slot) where
   -- What is given back is claimed, and all is.
   pub next_claimed : (slot.done < slot.claimed) × (slot.claimed ≡ slot.n)
   next_claimed = counts_there targets slot known.steps_in.made Viewed known.phase_known
@@ -99,12 +99,12 @@ module _ (words : Words) (targets : List Target) (team : ℕ) (slot : Slot.Ticke
     stands_there = standing targets slot
 
     -- By the answer,
-    view_given : Answered out at (view_given_back stands_there).answer place output → LeftBy (step_of words (gathered targets slot) team) targets left after out at place output
+    view_given : Answered out (view_given_back stands_there).answer place output → LeftBy (step_of words (gathered targets slot) team) targets left after out place output
     view_given answer =
         let made = known.steps_in.made in
         let (below, all) = next_claimed in
         let read = next_is ∙ sym (target_read targets slot made slot.done (omega (arith, below, all))) in
-        step_left Viewed words targets team slot out at known (tries next.word (mark_of team) next.quoted) _ after (view_given_back stands_there) targets left place output
+        step_left Viewed words targets team slot out known (tries next.word (mark_of team) next.quoted) _ after (view_given_back stands_there) targets left place output
         (λ i. tries (read i).word (mark_of team) (read i).quoted) refl leaves refl
         (ap (gathered targets) is
         ∙ gathered_seen targets slot (phase_tells slot Viewed known.phase_known) below (omega (arith, all))
@@ -115,16 +115,16 @@ module _ (words : Words) (targets : List Target) (team : ℕ) (slot : Slot.Ticke
     by last = cond last (stepped no_ticket (Answer.Seen (values_seen stands_there))) (stepped (advanced stands_there Viewed slot.claimed (slot.done + 1)) (Answer.Returned (slot.done + 1)))
 
     -- which is Returned where the view still stands,
-    pub view_returns : stands_in left ≡ true → Answered out at (Answer.Returned left.done) place output → LeftBy (step_of words (gathered targets slot) team) targets left after out at place output
+    pub view_returns : stands_in left ≡ true → Answered out (Answer.Returned left.done) place output → LeftBy (step_of words (gathered targets slot) team) targets left after out place output
     view_returns stands answer =
         let (below, all) = next_claimed in
         let (more, counts) = given_more slot slot.kind below (omega (arith, all)) (sym (ap stands_in is) ∙ stands) in
-        view_given (subst (λ told. Answered out at told place output) (ap (λ (s : Slot.Ticket). Answer.Returned s.done) is ∙ ap Answer.Returned counts ∙ sym (ap (λ b. (by b).answer) more)) answer)
+        view_given (subst (λ told. Answered out told place output) (ap (λ (s : Slot.Ticket). Answer.Returned s.done) is ∙ ap Answer.Returned counts ∙ sym (ap (λ b. (by b).answer) more)) answer)
 
     -- and else Seen, with the values.
-    pub view_sees : (seen : Values) → stands_in left ≡ false → seen ≡ values_seen (targets_of targets slot.n) → Answered out at (Answer.Seen seen) place output
-        → LeftBy (step_of words (gathered targets slot) team) targets left after out at place output
+    pub view_sees : (seen : Values) → stands_in left ≡ false → seen ≡ values_seen (targets_of targets slot.n) → Answered out (Answer.Seen seen) place output
+        → LeftBy (step_of words (gathered targets slot) team) targets left after out place output
     view_sees seen gone is_seen answer =
         let (below, all) = next_claimed in
         let last = given_last slot slot.kind below (omega (arith, all)) (sym (ap stands_in is) ∙ gone) in
-        view_given (subst (λ told. Answered out at told place output) (ap Answer.Seen (is_seen ∙ standing_seen targets slot) ∙ sym (ap (λ b. (by b).answer) last)) answer)
+        view_given (subst (λ told. Answered out told place output) (ap Answer.Seen (is_seen ∙ standing_seen targets slot) ∙ sym (ap (λ b. (by b).answer) last)) answer)

@@ -8,6 +8,7 @@ ghost use Rattle.tickets.specs.Steps.{value_noted, values_seen, step_of};
 ghost use Rattle.tickets.specs.Table.{target_room, noted_at, targets_of, gathered};
 ghost use Rattle.replies.specs.Leaving.{StepsFrom, LeftBy};
 
+use frames::Answer;
 use replies::Left;
 use tickets::{StepAnswer, Target, Ticket, Tickets, Values};
 use words::Limits;
@@ -22,25 +23,24 @@ fn note(targets: &mut [Target; Tickets::ROOM], k: u16, found: u64)
 
 // One step of a view that claims: one swap, which takes any value.
 pub fn view_claim(
-    book: &mut [u64],
+    book: &mut [u64; Limits::WORDS],
     targets: &mut [Target; Tickets::ROOM],
     ticket: Ticket,
     team: usize,
-    out: &mut [u8],
-    at: usize,
+    out: &mut [u8; Answer::LONGEST],
 ) -> Left
-    requires { StepsFrom Viewing book.old targets.old team ticket out.old at }
-    ensures { LeftBy (step_of book.old (gathered targets.old ticket) team) targets.new result.ticket book.new out.old at result.filled out.new }
+    requires { StepsFrom Viewing targets.old team ticket }
+    ensures { LeftBy (step_of book.old (gathered targets.old ticket) team) targets.new result.ticket book.new out.old result.written out.new }
 {
     let target = replies::target_at(targets, ticket.claimed);
     let mark = words::mark(team as u16);
     let found = words::swap_any_value(book, target.word as usize, mark).found;
     if words::is_held(found) {
-        return replies::waited(ticket, target.word as u16, found, out, at);
+        return replies::waited(ticket, target.word as u16, found, out);
     }
     note(targets, ticket.claimed, found);
     let after = ticket.claim();
-    replies::leave(after, StepAnswer::Claimed(after.claimed), out, at)
+    replies::leave(after, StepAnswer::Claimed(after.claimed), out)
 }
 
 // The value noted for a word, 0 where it is no target's.
@@ -69,22 +69,21 @@ fn values_seen(targets: &[Target; Tickets::ROOM], n: u16) -> Values
 // One step of a view that gives back: one conditional swap. It differs from an edit's in its last answer, which is worked out only then:
 // a function of both would be handed a closure for these two lines.
 pub fn view_give_back(
-    book: &mut [u64],
+    book: &mut [u64; Limits::WORDS],
     targets: &[Target; Tickets::ROOM],
     ticket: Ticket,
     team: usize,
-    out: &mut [u8],
-    at: usize,
+    out: &mut [u8; Answer::LONGEST],
 ) -> Left
-    requires { StepsFrom Viewed book.old targets.now team ticket out.old at }
-    ensures { LeftBy (step_of book.old (gathered targets.now ticket) team) targets.now result.ticket book.new out.old at result.filled out.new }
+    requires { StepsFrom Viewed targets.now team ticket }
+    ensures { LeftBy (step_of book.old (gathered targets.now ticket) team) targets.now result.ticket book.new out.old result.written out.new }
 {
     let target = replies::target_at(targets, ticket.done);
     replies::release(book, team, target.word, target.quoted);
     let after = ticket.give_back();
     if after.stands() {
-        return replies::leave(after, StepAnswer::Returned(after.done), out, at);
+        return replies::leave(after, StepAnswer::Returned(after.done), out);
     }
     let seen = values_seen(targets, ticket.n);
-    replies::leave(after, StepAnswer::Seen(seen), out, at)
+    replies::leave(after, StepAnswer::Seen(seen), out)
 }

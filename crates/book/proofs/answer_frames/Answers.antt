@@ -8,7 +8,7 @@ use lib.ListN.{length}
 use Rattle.tickets.specs.Table.{table_of}
 use Rattle.calls.specs.Stream.{stream_from}
 use Rattle.book.specs.Quickly.{QuickSlots}
-use Rattle.words.specs.Words.{words_in_book, team_count}
+use Rattle.words.specs.Words.{team_count}
 use Rattle.frames.specs.Requests.{step_kind}
 use Rattle.calls.proofs.WellMadeTables.{each_byte}
 use Rattle.tickets.proofs.MadeTables.{all_well_made_lem}
@@ -18,10 +18,11 @@ use Rattle.replies.specs.Leaving.{RoomAt}
 use Rattle.dispatch.proofs.Aiming.{slot_known}
 use Rattle.handlers.specs.Settling.{NoStep}
 use Rattle.book.proofs.Turning.{Turn, slot_known_made}
-use Rattle.book.proofs.Stepping.{ends_ahead, other_than_step, quick_at, says, went_on, stepped_on, opened_on, unopened_on}
+use Rattle.book.proofs.Rooms.{rest_fits}
+use Rattle.book.proofs.Stepping.{room_there, ends_ahead, other_than_step, quick_at, says, went_on, stepped_fits, stepped_on, frame_fits, opened_on, unopened_on}
 use borrow.Author.Rules.{rules}
 use Rattle.book.proofs.answer_frames.Goals as goal
-use Rattle.book.proofs.answer_frames.Goals.{In-Step, In-Other, After-slice_known-in-Step-1}
+use Rattle.book.proofs.answer_frames.Goals.{In-Step, In-Other}
 use Rattle.calls.specs.Way.{Aim}
 use Rattle.calls.specs.Way.{aim_numbered, aim_of, AimKnown}
 use Rattle.frames.specs.Numbers.{Bytes}
@@ -69,10 +70,6 @@ team_below c = (step_inside c).2.2
 step_room : (c : In-Step) → RoomAt (step_turn c).out (step_turn c).filled
 step_room c = record { inside = (step_turn c).goes.fits; room = (step_turn c).ahead.answerable }
 
--- The book keeps its length.
-book_whole : (c : After-slice_known-in-Step-1) → length c.try_quick-tried.new.book ≡ words_in_book
-book_whole c = search rules
-
 -- Where any other frame is answered: its size, and what is known of it.
 abbrev size_at : In-Other → ℕ
 size_at c = c.in-Other.size
@@ -116,7 +113,7 @@ no_step c aim told =
 pub loop-next-init : goal.loop-next-init
 loop-next-init c = (
   record {
-    book = c.requires;
+    book = c.told-book;
     inside = omega arith;
     fits = omega arith;
     same_length = refl;
@@ -161,12 +158,12 @@ bounds-quick-team c = omega (arith, team_below (goal.at.bounds-quick-team c).In-
 
 pub try_quick-tried-requires : goal.try_quick-tried-requires
 try_quick-tried-requires c =
-    ((step_turn (goal.at.try_quick-tried-requires c).In-Step).goes.book, team_below (goal.at.try_quick-tried-requires c).In-Step, quick_at (step_turn (goal.at.try_quick-tried-requires c).In-Step) (team_at (goal.at.try_quick-tried-requires c).In-Step) refl (quick_list (goal.at.try_quick-tried-requires c).In-Step) (quick_kept (goal.at.try_quick-tried-requires c).In-Step))
+    (team_below (goal.at.try_quick-tried-requires c).In-Step, quick_at (step_turn (goal.at.try_quick-tried-requires c).In-Step) (team_at (goal.at.try_quick-tried-requires c).In-Step) refl (quick_list (goal.at.try_quick-tried-requires c).In-Step) (quick_kept (goal.at.try_quick-tried-requires c).In-Step))
 
 pub advanced-after-requires : goal.advanced-after-requires
 advanced-after-requires c =
     let point = (goal.at.advanced-after-requires c).In-Step in
-    (says (step_turn point) (team_at point) refl (quick_list point) (quick_kept point) c.try_quick-tried.result c.try_quick-tried.new.book (book_whole (goal.at.advanced-after-requires c).After-slice_known-in-Step-1) c.try_quick-tried.ensures).advances c.in-Went.claims c.in-Went.is
+    (says (step_turn point) (team_at point) refl (quick_list point) (quick_kept point) c.try_quick-tried.result c.try_quick-tried.new.book c.try_quick-tried.array_long c.try_quick-tried.ensures).advances c.in-Went.claims c.in-Went.is
 
 pub put_told-filled-requires : goal.put_told-filled-requires
 put_told-filled-requires c = step_room (goal.at.put_told-filled-requires c).In-Step
@@ -176,15 +173,15 @@ loop-next-smaller-in-Went c = let inside = (step_inside (goal.at.loop-next-small
 
 pub loop-next-preserved-in-Went : goal.loop-next-preserved-in-Went
 loop-next-preserved-in-Went c =
-    went_on (step_turn (goal.at.loop-next-preserved-in-Went c).In-Step) (team_at (goal.at.loop-next-preserved-in-Went c).In-Step) refl (quick_list (goal.at.loop-next-preserved-in-Went c).In-Step) (quick_kept (goal.at.loop-next-preserved-in-Went c).In-Step) c.try_quick-tried.result c.try_quick-tried.new.book (book_whole (goal.at.loop-next-preserved-in-Went c).After-slice_known-in-Step-1) c.try_quick-tried.ensures
+    went_on (step_turn (goal.at.loop-next-preserved-in-Went c).In-Step) (team_at (goal.at.loop-next-preserved-in-Went c).In-Step) refl (quick_list (goal.at.loop-next-preserved-in-Went c).In-Step) (quick_kept (goal.at.loop-next-preserved-in-Went c).In-Step) c.try_quick-tried.result c.try_quick-tried.new.book c.try_quick-tried.array_long c.try_quick-tried.ensures
     c.in-Went.claims c.in-Went.is _ _ _ c.advanced-after.ensures c.put_told-filled.ensures
 
 pub other_step-left-requires : goal.other_step-left-requires
 other_step-left-requires c =
     let point = (goal.at.other_step-left-requires c).In-Step in
-    let told = says (step_turn point) (team_at point) refl (quick_list point) (quick_kept point) c.try_quick-tried.result c.try_quick-tried.new.book (book_whole (goal.at.other_step-left-requires c).After-slice_known-in-Step-1) c.try_quick-tried.ensures in
+    let told = says (step_turn point) (team_at point) refl (quick_list point) (quick_kept point) c.try_quick-tried.result c.try_quick-tried.new.book c.try_quick-tried.array_long c.try_quick-tried.ensures in
     let fast = quick_at (step_turn point) (team_at point) refl (quick_list point) (quick_kept point) in
-    (book_whole (goal.at.other_step-left-requires c).After-slice_known-in-Step-1, team_below point, (λ found missed. record { claiming = told.claiming found missed; made = (fast (told.few_missed found missed)).made; room_at = step_room point }), slot_known_made (step_turn point), step_room point)
+    (team_below point, (λ found missed. record { claiming = told.claiming found missed; made = (fast (told.few_missed found missed)).made }), slot_known_made (step_turn point), rest_fits _ _ (room_there (step_turn point) (team_at point) refl (quick_list point) (quick_kept point)))
 
 pub offset_bounds-quick-team-in-Step : goal.offset_bounds-quick-team-in-Step
 offset_bounds-quick-team-in-Step c = omega (arith, team_below (goal.at.offset_bounds-quick-team-in-Step c).In-Step)
@@ -197,8 +194,26 @@ loop-next-smaller-in-Step c = let inside = (step_inside (goal.at.loop-next-small
 
 pub loop-next-preserved-in-Step : goal.loop-next-preserved-in-Step
 loop-next-preserved-in-Step c =
-    stepped_on (step_turn (goal.at.loop-next-preserved-in-Step c).In-Step) (team_at (goal.at.loop-next-preserved-in-Step c).In-Step) refl (quick_list (goal.at.loop-next-preserved-in-Step c).In-Step) (quick_kept (goal.at.loop-next-preserved-in-Step c).In-Step) c.try_quick-tried.result c.try_quick-tried.new.book (book_whole (goal.at.loop-next-preserved-in-Step c).After-slice_known-in-Step-1) c.try_quick-tried.ensures
-    c.in_default.not-Went _ _ _ _ _ _ c.other_step-left.ensures c.quick_of.ensures
+    let point = (goal.at.loop-next-preserved-in-Step c).In-Step in
+    stepped_on (step_turn point) (team_at point) refl (quick_list point) (quick_kept point) c.try_quick-tried.result c.try_quick-tried.new.book c.try_quick-tried.array_long c.try_quick-tried.ensures
+    c.in_default.not-Went _ _ _ _ _ _ _
+    c.other_step-left.ensures
+    (search rules) refl c.quick_of.ensures
+
+pub overflow_add-filled : goal.overflow_add-filled
+overflow_add-filled c =
+    let point = (goal.at.overflow_add-filled c).In-Step in
+    omega (
+      arith,
+      stepped_fits (step_turn point) (team_at point) refl (quick_list point) (quick_kept point) c.try_quick-tried.result c.try_quick-tried.new.book c.try_quick-tried.array_long c.try_quick-tried.ensures
+          c.in_default.not-Went _ _ _ _ _ c.other_step-left.ensures,
+    )
+
+pub overflow_add-filled-in-Other : goal.overflow_add-filled-in-Other
+overflow_add-filled-in-Other c =
+    let slot = c.slot_of-team in
+    let frame = c.other_frame-left in
+    omega (arith, frame_fits (other_turn (goal.at.overflow_add-filled-in-Other c).In-Other (aim_numbered c.aim_of-aim.result) c.aim_of-aim.ensures) (no_step (goal.at.overflow_add-filled-in-Other c).In-Other (aim_numbered c.aim_of-aim.result) c.aim_of-aim.ensures) c.loop-next.quick c.loop-next.invariant.1 slot.result slot.ensures.0 frame.result _ _ _ frame.ensures refl)
 
 pub overflow_add-frame : goal.overflow_add-frame
 overflow_add-frame c = omega (arith, (other_inside (goal.at.overflow_add-frame c).In-Other).inside)
@@ -215,7 +230,7 @@ slot_of-team-requires c = slot_known (frame_at c.args.input.now c.loop-next.at (
 pub other_frame-left-requires : goal.other_frame-left-requires
 other_frame-left-requires c =
     let turn = other_turn (goal.at.other_frame-left-requires c).In-Other (aim_numbered c.aim_of-aim.result) c.aim_of-aim.ensures in
-    (turn.goes.book, turn.aim_known, no_step (goal.at.other_frame-left-requires c).In-Other (aim_numbered c.aim_of-aim.result) c.aim_of-aim.ensures, record { inside = turn.goes.fits; room = turn.ahead.answerable })
+    (turn.aim_known, no_step (goal.at.other_frame-left-requires c).In-Other (aim_numbered c.aim_of-aim.result) c.aim_of-aim.ensures, rest_fits turn.out turn.filled (omega (arith, turn.goes.fits, turn.ahead.answerable)))
 
 pub loop-next-smaller-in-Some : goal.loop-next-smaller-in-Some
 loop-next-smaller-in-Some c = let ahead = other_inside (goal.at.loop-next-smaller-in-Some c).In-Other in omega (arith, ahead.inside, ahead.least)
@@ -225,7 +240,7 @@ loop-next-preserved-in-Some c =
     let slot = c.slot_of-team in
     let frame = c.other_frame-left in
     let loop = c.loop-next in
-    opened_on (other_turn (goal.at.loop-next-preserved-in-Some c).In-Other (aim_numbered c.aim_of-aim.result) c.aim_of-aim.ensures) (no_step (goal.at.loop-next-preserved-in-Some c).In-Other (aim_numbered c.aim_of-aim.result) c.aim_of-aim.ensures) loop.quick loop.invariant.1 slot.result slot.ensures.0 frame.result _ _ frame.ensures
+    opened_on (other_turn (goal.at.loop-next-preserved-in-Some c).In-Other (aim_numbered c.aim_of-aim.result) c.aim_of-aim.ensures) (no_step (goal.at.loop-next-preserved-in-Some c).In-Other (aim_numbered c.aim_of-aim.result) c.aim_of-aim.ensures) loop.quick loop.invariant.1 slot.result slot.ensures.0 frame.result _ _ _ frame.ensures refl
     c.in-Some.after c.in-Some.is slot.ensures.1 _ c.quick_of-in-Some.ensures
 
 pub loop-next-smaller : goal.loop-next-smaller
@@ -236,4 +251,4 @@ loop-next-preserved c =
     let slot = c.slot_of-team in
     let frame = c.other_frame-left in
     let loop = c.loop-next in
-    unopened_on (other_turn (goal.at.loop-next-preserved c).In-Other (aim_numbered c.aim_of-aim.result) c.aim_of-aim.ensures) (no_step (goal.at.loop-next-preserved c).In-Other (aim_numbered c.aim_of-aim.result) c.aim_of-aim.ensures) loop.quick loop.invariant.1 slot.result slot.ensures.0 frame.result _ _ frame.ensures c.in_default-ticket.is slot.ensures.1
+    unopened_on (other_turn (goal.at.loop-next-preserved c).In-Other (aim_numbered c.aim_of-aim.result) c.aim_of-aim.ensures) (no_step (goal.at.loop-next-preserved c).In-Other (aim_numbered c.aim_of-aim.result) c.aim_of-aim.ensures) loop.quick loop.invariant.1 slot.result slot.ensures.0 frame.result _ _ _ frame.ensures refl c.in_default-ticket.is slot.ensures.1

@@ -1,20 +1,13 @@
 -- `claiming::claim` meets its contract: the quoted value is exchanged for the mark, or the claim misses.
 use Rattle.tickets.specs.declared.Phase.TheVariants.{Claiming}
 use Rattle.replies.proofs.Standing.{phase_tells, target_asked}
-use Rattle.replies.proofs.Stepping.{target_inside}
 use Rattle.claiming.proofs.Claiming.{next_unclaimed, misses_in, edit_claims, edit_misses}
 use Rattle.claiming.proofs.claim.Goals as goal
 
 pub target_at-target-requires : goal.target_at-target-requires
 target_at-target-requires c =
     let args = c.args in
-    target_asked args.targets.now args.ticket c.requires.steps_in.made args.ticket.claimed (next_unclaimed args.book.now args.targets.now args.team args.ticket args.out.now args.at c.requires)
-
-pub conditional_swap-found-requires : goal.conditional_swap-found-requires
-conditional_swap-found-requires c =
-    let target = c.target_at-target in
-    let args = c.args in
-    target_inside Claiming args.book.now args.targets.now args.team args.ticket args.out.now args.at c.requires args.ticket.claimed (next_unclaimed args.book.now args.targets.now args.team args.ticket args.out.now args.at c.requires) target.result target.ensures.target
+    target_asked args.targets.now args.ticket c.requires.steps_in.made args.ticket.claimed (next_unclaimed args.book.now args.targets.now args.team args.ticket args.out.now c.requires)
 
 pub claim-after-requires : goal.claim-after-requires
 claim-after-requires c =
@@ -29,13 +22,13 @@ returns-then-found-target c =
     let after = c.claim-after in
     let left = c.leave in
     rw left.ensures.ticket
-    (edit_claims args.book.now args.targets.now args.team args.ticket args.out.now args.at c.requires target.result mark.result swap.result.found swap.new.book after.result left.result.filled left.new.out
+    (edit_claims args.book.now args.targets.now args.team args.ticket args.out.now c.requires target.result mark.result swap.result.found swap.new.book after.result left.result.written left.new.out
     target.ensures.target mark.ensures swap.ensures.found swap.ensures.words c.if-found-target.true after.ensures.slot left.ensures.answer)
 
 pub missed-requires : goal.missed-requires
 missed-requires c =
     let args = c.args in
-    misses_in args.book.now args.targets.now args.team args.ticket args.out.now args.at c.requires
+    misses_in args.book.now args.targets.now args.team args.ticket args.out.now c.requires
 
 pub returns : goal.returns
 returns c =
@@ -43,5 +36,5 @@ returns c =
     let mark = c.mark-mark in
     let target = c.target_at-target in
     let args = c.args in
-    edit_misses args.book.now args.targets.now args.team args.ticket args.out.now args.at c.requires target.result mark.result c.conditional_swap-found.result.found c.conditional_swap-found.new.book c.missed.result.ticket c.missed.result.filled c.missed.new.out
+    edit_misses args.book.now args.targets.now args.team args.ticket args.out.now c.requires target.result mark.result c.conditional_swap-found.result.found c.conditional_swap-found.new.book c.missed.result.ticket c.missed.result.written c.missed.new.out
     target.ensures.target mark.ensures c.conditional_swap-found.ensures.found c.conditional_swap-found.ensures.words other c.missed.ensures

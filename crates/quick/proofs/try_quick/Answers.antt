@@ -11,7 +11,7 @@ returns-then-quick-ticket c =
 
 pub swap_at-swap-requires : goal.swap_at-swap-requires
 swap_at-swap-requires c =
-    (c.requires.1, c.requires.2 (omega (arith, c.if-quick-ticket.false)))
+    (c.requires.0, c.requires.1 (omega (arith, c.if-quick-ticket.false)))
 
 pub returns-then-found-swap : goal.returns-then-found-swap
 returns-then-found-swap c =

@@ -1,26 +1,18 @@
 -- `releasing::put` meets its contract: the mark is exchanged for the new value, told as Put, or with the last as Granted.
 use mathlib.Core.Path.{sym, ◌∙◌}
-use Rattle.tickets.specs.declared.Phase.TheVariants.{Putting}
 use Rattle.replies.proofs.Standing.{target_asked}
-use Rattle.replies.proofs.Stepping.{target_inside}
 use Rattle.releasing.proofs.Releasing.{puts_next, edit_puts, edit_granted}
 use Rattle.releasing.proofs.put.Goals as goal
 
 pub target_at-target-requires : goal.target_at-target-requires
 target_at-target-requires c =
     let args = c.args in
-    target_asked args.targets.now args.ticket c.requires.steps_in.made args.ticket.done (puts_next args.book.now args.targets.now args.team args.ticket args.out.now args.at c.requires).1
-
-pub release-requires : goal.release-requires
-release-requires c =
-    let target = c.target_at-target in
-    let args = c.args in
-    (c.requires.steps_in.team_known, target_inside Putting args.book.now args.targets.now args.team args.ticket args.out.now args.at c.requires args.ticket.done (puts_next args.book.now args.targets.now args.team args.ticket args.out.now args.at c.requires).1 target.result target.ensures.target)
+    target_asked args.targets.now args.ticket c.requires.steps_in.made args.ticket.done (puts_next args.book.now args.targets.now args.team args.ticket args.out.now c.requires).1
 
 pub put-after-requires : goal.put-after-requires
 put-after-requires c =
     let args = c.args in
-    puts_next args.book.now args.targets.now args.team args.ticket args.out.now args.at c.requires
+    puts_next args.book.now args.targets.now args.team args.ticket args.out.now c.requires
 
 pub returns-then-stands : goal.returns-then-stands
 returns-then-stands c =
@@ -29,7 +21,7 @@ returns-then-stands c =
     let after = c.put-after in
     let left = c.leave in
     rw left.ensures.ticket
-    (edit_puts args.book.now args.targets.now args.team args.ticket args.out.now args.at c.requires target.result c.release.new.book after.result left.result.filled left.new.out
+    (edit_puts args.book.now args.targets.now args.team args.ticket args.out.now c.requires target.result c.release.new.book after.result left.result.written left.new.out
     target.ensures.target c.release.ensures after.ensures.slot (sym c.stands.ensures ∙ c.if-stands.true) left.ensures.answer)
 
 pub returns : goal.returns
@@ -39,5 +31,5 @@ returns c =
     let after = c.put-after in
     let left = c.leave-2 in
     rw left.ensures.ticket
-    (edit_granted args.book.now args.targets.now args.team args.ticket args.out.now args.at c.requires target.result c.release.new.book after.result left.result.filled left.new.out
+    (edit_granted args.book.now args.targets.now args.team args.ticket args.out.now c.requires target.result c.release.new.book after.result left.result.written left.new.out
     target.ensures.target c.release.ensures after.ensures.slot (sym c.stands.ensures ∙ c.if-stands.false) left.ensures.answer)

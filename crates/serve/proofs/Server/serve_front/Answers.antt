@@ -5,8 +5,8 @@ use Rattle.tickets.specs.Table.{table_of}
 use Rattle.serve.proofs.Serving.{room_to_refuse, few_kept}
 use Rattle.serve.proofs.Server.serve_front.Goals as goal
 
-pub put_refused-refused-requires : goal.put_refused-refused-requires
-put_refused-refused-requires c =
+pub put-refused-requires : goal.put-refused-requires
+put-refused-requires c =
     let before = c.args.self.now in
     room_to_refuse before.book.now (table_of before.tickets) before.ranks.now before.input.buffer.now before.input.have before.out.now _ _ _ c.stream-answered.ensures.all (omega arith) before.input.inside before.roomy
 
