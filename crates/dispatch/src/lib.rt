@@ -59,7 +59,8 @@ pub fn slot_of(aim: Result<Aim, Refusal>) -> usize
     }
 }
 
-// The size of the whole frame at a place, or why there is none.
+// The size of the whole frame at a place, or why there is none. The place is the stream's own number, which counts what was consumed: a
+// slice of the rest would have it counted once more.
 fn next_frame(input: &[u8], at: usize) -> Result<usize, Stop>
     requires { at ≤ length input.now }
     ensures { (result ≡ next_at input.now at) × NextInside input.now at result }

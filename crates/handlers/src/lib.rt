@@ -49,7 +49,8 @@ fn look_answer(book: &[u64; Limits::WORDS], frame: &[u8]) -> Answer
     Answer::Refused(Refusal::Range.number())
 }
 
-// Whether a slot passes: in a table of which that is known it is not tested again.
+// Whether a slot passes: in a table of which that is known it is not tested again. What is known is so of this slot, and the stream
+// knows it of all: a struct would be made of each slot anew.
 fn known_well_made(targets: &[Target; Tickets::ROOM], ticket: Ticket, known: bool) -> bool
     requires { known ≡ true → SlotWellMade (gathered targets.now ticket) }
     ensures { result ≡ slot_well_made (gathered targets.now ticket) }
@@ -134,7 +135,9 @@ fn answer_other(
     }
 }
 
-// A frame that is no team's step: it changes no word. Its answer is at the front of the output.
+// A frame that is no team's step: it changes no word. Its answer is at the front of the output, which is a slice, here and in
+// `other_step`: of the room taken from a part of the output in the stream's loop, no fact says how the whole is written through it, so that
+// the proof there doesn't close. What is known of the aim is so of this frame: a struct of both would be taken apart here.
 pub fn other_frame(
     book: &[u64; Limits::WORDS],
     targets: &mut [Target; Tickets::ROOM],

@@ -20,7 +20,8 @@ pub struct Target {
 }
 
 // The phase of a ticket; "no ticket" is that of an empty slot. An edit is claiming, then putting or giving back; a view (in
-// the literature: an atomic multi-word read, or snapshot) claims, then gives back. A view that is putting can't be written.
+// the literature: an atomic multi-word read, or snapshot) claims, then gives back. A view that is putting can't be written. That there is
+// none is a phase too: the definitions go by all six, and an Option would be taken apart wherever a phase is matched.
 #[derive(Clone, Copy)]
 pub enum Phase {
     NoTicket,
@@ -85,7 +86,8 @@ pub enum StepAnswer {
     Seen(Values),
 }
 
-// What a view has seen: the values of its n words, in the order named; room not used is zeros.
+// What a view has seen: the values of its n words, in the order named; room not used is zeros. There is no heap, and a slice would
+// borrow from the table that is written: the number stands beside the array.
 #[derive(Clone, Copy)]
 pub struct Values {
     pub n: u16,
@@ -122,7 +124,8 @@ impl Ticket {
         }
     }
 
-    // The slot of a team with no ticket: an edit's of no targets, all of which are done.
+    // The slot of a team with no ticket: an edit's of no targets, all of which are done. A finished ticket is gone and says so by its
+    // counts, so that an Option would be a second way to say it.
     pub fn none() -> Ticket
         ensures { result ≡ no_slot }
     {
