@@ -45,17 +45,14 @@ pub fn aim_of(frame: &[u8]) -> Result<Aim, Refusal>
     aim_by_kind(frame, kind)
 }
 
-// The slot that a frame uses: its team's, else the first, which it leaves as it is.
+// The slot that a frame uses: its team's, else the first, which it leaves as it is: an Option would be turned into it at both calls.
 pub fn slot_of(aim: Result<Aim, Refusal>) -> usize
     requires { SlotKnown (aim_numbered aim) }
     ensures { (result ≡ slot_of (aim_numbered aim)) × (result < team_count) }
 {
-    let Ok(aim) = aim else {
-        return 0;
-    };
     match aim {
-        Aim::Look => 0,
-        Aim::Team(_, team) => team as usize,
+        Ok(Aim::Team(_, team)) => team as usize,
+        _ => 0,
     }
 }
 

@@ -1,22 +1,21 @@
-// What each frame does to its slot, and its answer at a place of the output: a step that does not go the fast way, an edit or
+// What each frame does to its slot, and its answer: a step that does not go the fast way, an edit or
 // a view that opens a ticket, a look, a refusal.
 #![tactic(auto)]
 
 ghost use Rattle.std.specs.Prelude.{◌≡◌, ℕ, true, None, ◌-◌, ◌≤◌, ◌<◌, length};
-ghost use Rattle.words.specs.Words.{words_in_book, team_count};
+ghost use Rattle.words.specs.Words.{team_count};
 ghost use Rattle.tickets.specs.declared.Ticket as Slot;
 ghost use Rattle.tickets.specs.Tickets.{SlotWellMade, slot_well_made};
 ghost use Rattle.tickets.specs.Table.{gathered};
-ghost use Rattle.frames.specs.Requests.{part_after_kind, view_words_in, step_kind};
+ghost use Rattle.frames.specs.Requests.{part_after_kind};
 ghost use Rattle.frames.specs.Numbers.{number16};
-ghost use Rattle.frames.specs.Fields.{Whole, ViewFields, read_edit, view_read};
+ghost use Rattle.frames.specs.Fields.{Whole, read_edit};
 ghost use Rattle.frames.specs.Requests.{look_kind};
 ghost use Rattle.frames.specs.Refusals.{refusal_number};
 ghost use Rattle.frames.specs.Kinds.{kind_number};
-ghost use Rattle.frames.specs.Answers.{longest_answer, answer_frame, written, PutAt};
+ghost use Rattle.frames.specs.Answers.{longest_answer, answer_frame, written};
 ghost use Rattle.frames.specs.declared.Answer.TheVariants as Answer;
-ghost use Rattle.calls.specs.Way.{aimed, aim_numbered, AimKnown, slot_of, look_answer, open_settled, view_settled, EditFields, settled_by};
-ghost use Rattle.replies.specs.Leaving.{RoomAt};
+ghost use Rattle.calls.specs.Way.{aimed, aim_numbered, AimKnown, look_answer, settled_by};
 ghost use Rattle.claiming.specs.Missing.{MissesIn};
 ghost use Rattle.quick.specs.declared.Tried.TheVariants.{Missed};
 ghost use Rattle.handlers.specs.Settling.{open_by, NoStep, AskedAs, OpenedBy, OpenedAs, StepLeft};

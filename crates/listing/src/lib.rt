@@ -15,7 +15,8 @@ use legs::distance_in;
 use stations::{Size, SoundBook, WrittenLeg};
 use words::Limits;
 
-// An output, and the place in it where the next word goes.
+// An output, and the place in it where the next word goes. That it has room is asked of the words that each function writes, which no
+// invariant can say of all.
 #[derive(Drop)]
 pub struct Output<'a> {
     pub words: &'a mut [u64],

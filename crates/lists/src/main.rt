@@ -112,7 +112,7 @@ fn tell_outcome(stdout: Stdout, outcome: Result<(), Refusal>) -> io::Result<()> 
 }
 
 // Room for the ranks lent, of which the first so many are in force.
-// No heap: the room is an array with their number beside it, since a slice would borrow from the state that keeps both.
+// The room behind the number is kept and read as well, so that it is no list of the ranks in force alone.
 #[derive(Clone, Copy)]
 struct Ranks {
     room: [u16; Lent::RANKS],

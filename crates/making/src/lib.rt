@@ -24,7 +24,8 @@ pub fn targets_well_made(targets: &[Target]) -> bool
     targets.iter().all(|target| target_well_made(target))
 }
 
-// Whether the words that a view names are distinct, and its targets in some order.
+// Whether the words that a view names are distinct, and its targets in some order. Names and words are taken out, since the tests are of
+// numbers.
 pub fn names_well_made(targets: &[Target; Tickets::ROOM], n: u16) -> bool
     requires { n ≤ target_room }
     ensures { result ≡ names_well_made (named_in (targets_of targets.now n)) (words_in (targets_of targets.now n)) }

@@ -42,7 +42,7 @@ pub enum Kind {
 
 // A ticket (in the source document: a multi-word compare-and-swap descriptor) in its team's slot: how many targets it has,
 // how many are claimed, how many are done, and its tries. Its phase follows from these. It is small, so that it goes by value
-// at no cost; its targets stand beside it in the slot.
+// at no cost; its targets stand beside it in the slot, and are lent apart from it: a step reads them while it makes the next ticket.
 #[derive(Clone, Copy)]
 pub struct Ticket {
     pub tries: u32,
@@ -52,7 +52,7 @@ pub struct Ticket {
     pub kind: Kind,
 }
 
-// What is kept for a team: its ticket, and room for the targets. A view keeps the values that it found where an edit keeps those it
+// What is kept for a team: its ticket, and room for the targets, since there is no heap: how many stand there, the ticket says. A view keeps the values that it found where an edit keeps those it
 // quotes, and the words in the order named where an edit keeps new values.
 #[derive(Clone, Copy)]
 pub struct Slot {
@@ -171,7 +171,7 @@ impl Ticket {
         }
     }
 
-    // The tries after one more. The scope names the number at which they stop, so that it is compared with and not left to the type.
+    // The tries after one more. The scope names this constant, at which they stop, so that it is not left to the type's.
     fn tried(self) -> u32
         ensures { result ≡ one_more_try self.tries }
     {

@@ -107,6 +107,7 @@ pub fn count_word(passage: u16) -> u16
     newest_word(passage) + 1
 }
 
+// A match of its own, as `last_leg_in` has: of a struct of a layout's two numbers each caller would take one.
 fn leg_words(layout: LegLayout) -> u16
     ensures { result ≡ leg_words layout }
 {
@@ -142,6 +143,7 @@ pub fn link_word(leg: u16) -> u16
     link_word_in(LegLayout::FourWords, leg)
 }
 
+// Each word of a leg has a function by its name, as the layout names it.
 pub fn place_word(leg: u16) -> u16
     requires { (1 ≤ leg) × (leg ≤ last_leg) }
     ensures { result ≡ place_word leg }
