@@ -28,7 +28,8 @@ use replies::Left;
 use tickets::{Target, Ticket, Tickets};
 use words::Limits;
 
-// What a frame that is no step leaves: the ticket that it opens, if it does, and the bytes of its answer.
+// What a frame that is no step leaves: the ticket that it opens, if it does, and the bytes of its answer. A struct of its own beside
+// `Left`: what the stream knows of a slot it tells anew only where there is a ticket.
 #[derive(Clone, Copy)]
 pub struct Opened {
     pub ticket: Option<Ticket>,

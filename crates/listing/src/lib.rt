@@ -32,7 +32,7 @@ impl<'a> Output<'a> {
         self.at += 1;
     }
 
-    // Puts the two words of a leg, or of a pair.
+    // Puts the two words of a leg, or of a pair: both at once, so that room is asked of once.
     fn put_two(&mut self, first: u64, second: u64)
         requires { HasRoom self.old (first ∷ second ∷ []) }
         ensures { HasWritten self.old (first ∷ second ∷ []) self.new }

@@ -196,6 +196,7 @@ impl State {
         self.ranks = self.ranks.with_table(&legs::fixed_ranks());
     }
 
+    // The parts that are lent are split off, since a part taken by its range isn't lent through the several fields at once.
     fn answer(&mut self, stdout: Stdout, call: Call<'_>) -> io::Result<()> {
         let State {
             words,

@@ -29,7 +29,8 @@ impl Size {
     pub const ENTRY: usize = 2;
 }
 
-// How many legs of a passage are there.
+// How many legs of a passage are there. The book and the station go side by side: the one is asked of the other, and a struct of both
+// would be made for one list alone.
 fn count_of(book: SoundBook, station: u16, passage: u16) -> usize
     requires { passage < passage_count }
     ensures { result ≡ length (those_meeting station (list_in FourWords book.entry.words.now passage)) }

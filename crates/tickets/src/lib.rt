@@ -132,7 +132,7 @@ impl Ticket {
         Ticket::opened(Kind::Edit, 0)
     }
 
-    // An edit's ticket of n targets, just opened,
+    // An edit's ticket of n targets, just opened, whose kind is in the name,
     pub fn edit(n: u16) -> Ticket
         ensures { result ≡ opened_slot Edit n }
     {
