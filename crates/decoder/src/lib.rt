@@ -186,7 +186,8 @@ fn read_move(part: &[u8]) -> Result<Edit, Refusal>
     }))
 }
 
-// The edit of a frame whose kind is an edit's.
+// The edit of a frame whose kind is an edit's. The other kinds stand here too: a type of the edits' kinds alone would be made of this one by
+// this same match.
 pub fn read_edit(kind: Kind, part: &[u8]) -> Result<Edit, Refusal>
     requires { (is_edit_kind (kind_number kind) ≡ true) × (length part.now ≡ length_of_kind (kind_number kind) - 2) }
     ensures { numbered result ≡ read_edit (kind_number kind) part.now }

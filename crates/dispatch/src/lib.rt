@@ -78,6 +78,7 @@ fn next_frame(input: &[u8], at: usize) -> Result<usize, Stop>
 }
 
 // Whether a whole step of a team stands at a place, told by its first four bytes as one number: most frames are steps.
+// `frames` asks this of a frame that is cut already, and of no team: neither is a part of the other.
 fn is_step_at(input: &[u8], at: usize) -> bool
     requires { at ≤ length input.now }
     ensures { result ≡ step_at input.now at }

@@ -66,7 +66,8 @@ fn with_passage(size: Size, count: usize) -> Size
     }
 }
 
-// The size of the list, from the last passage on: each finds those after it counted.
+// The size of the list, from the last passage on: each finds those after it counted. A loop and no fold, whose closure would have to ask
+// that the size so far is small.
 pub fn size_of(counts: [usize; Limits::PASSAGES as usize]) -> Size
     requires { sum counts ≤ last_leg }
     ensures { result ≡ size_of counts }
