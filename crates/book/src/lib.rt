@@ -2,7 +2,6 @@
 #![tactic(auto)]
 
 ghost use Rattle.std.specs.Prelude.{◌≡◌, Bool, true, ℕ, ◌≤◌, ◌<◌, length};
-ghost use Rattle.words.specs.Words.{words_in_book};
 ghost use Rattle.tickets.specs.Table.{table_of};
 ghost use Rattle.frames.specs.Refusals.{numbered, refusal_in};
 ghost use Rattle.frames.specs.Answers.{longest_answer};
@@ -10,7 +9,6 @@ ghost use Rattle.calls.specs.Call.{call_of};
 ghost use Rattle.calls.specs.Returned.{reply_of, returned_refusal};
 ghost use Rattle.calls.specs.Stream.{streamed, streamed_of, stream_from, stream_of};
 ghost use Rattle.calls.specs.Way.{aim_numbered, AimKnown, slot_of, settled_by};
-ghost use Rattle.replies.specs.Leaving.{RoomAt};
 ghost use Rattle.tickets.specs.Table.{gathered};
 ghost use Rattle.handlers.specs.Settling.{SettledAs};
 ghost use Rattle.book.specs.Quickly.{quick_for, QuickSlots, is_step_by};
@@ -29,13 +27,7 @@ use words::Limits;
 fn is_step(aim: Result<Aim, Refusal>) -> bool
     ensures { result ≡ is_step_by (aim_numbered aim) }
 {
-    let Ok(aim) = aim else {
-        return false;
-    };
-    let Aim::Team(kind, _) = aim else {
-        return false;
-    };
-    matches!(kind, Kind::Step)
+    matches!(aim, Ok(Aim::Team(Kind::Step, _)))
 }
 
 // What a frame leaves in its slot, the table not known to be well made, and its answer at the front of the output.
@@ -68,7 +60,7 @@ fn turned_away(tickets: Tickets, refusal: Refusal) -> Reply
 {
     Reply {
         written: Err(refusal),
-        tickets: tickets,
+        tickets,
     }
 }
 
@@ -133,16 +125,17 @@ fn stopped(tickets: Tickets, consumed: usize, written: usize, stop: Stop) -> Str
     ensures { (streamed_of result ≡ streamed (table_of tickets) consumed written stop) × (result.consumed ≡ consumed) × (result.written ≡ written) }
 {
     Streamed {
-        tickets: tickets,
-        consumed: consumed,
-        written: written,
-        stop: stop,
+        tickets,
+        consumed,
+        written,
+        stop,
     }
 }
 
 // All frames, one after another. An edit's claims and puts that go through, as most frames are, have the fast way; where all
 // tickets are well made at the start they stay so, and no step tests one again. The look at the ranks tells the proof that
-// they are accepted. What is known of a slot in this stream alone stands beside the table, which is returned as it is.
+// they are accepted. What is known of a slot in this stream alone stands beside the table, which is returned as it is. Both
+// places are numbers of the loop, which go in registers: of a struct with the output its part would be lent just the same.
 fn answer_frames(
     book: &mut [u64; Limits::WORDS],
     mut tickets: Tickets,

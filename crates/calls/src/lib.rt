@@ -5,7 +5,8 @@
 use frames::{Kind, Refusal};
 use tickets::Tickets;
 
-// What the call returns: the bytes written, or the refusal that is returned and written nowhere; and the tickets.
+// What the call returns: the bytes written, or the refusal that is returned and written nowhere; and the tickets, which go by value, as
+// the scope has them.
 #[derive(Clone, Copy)]
 pub struct Reply {
     pub written: Result<usize, Refusal>,

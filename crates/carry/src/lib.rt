@@ -84,12 +84,10 @@ fn has_leg_above(old: &[u64; Limits::WORDS]) -> bool
 pub fn carry_over(old: &[u64], second: &mut [u64], tickets: Tickets) -> Result<(), Refusal>
     ensures { (numbered result, second.new) ≡ carry_of old.now second.old (table_of tickets) }
 {
-    let Some(old) = old.as_array::<{ Limits::WORDS }>() else {
-        return Err(Refusal::Book);
-    };
-    let Some(second) = second.as_mut_array::<{ Limits::WORDS }>() else {
-        return Err(Refusal::Book);
-    };
+    let old = old.as_array::<{ Limits::WORDS }>().ok_or(Refusal::Book)?;
+    let second = second
+        .as_mut_array::<{ Limits::WORDS }>()
+        .ok_or(Refusal::Book)?;
     if any_stands(&tickets.slots) {
         return Err(Refusal::TicketStands);
     }

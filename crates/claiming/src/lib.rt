@@ -43,7 +43,8 @@ pub fn missed(
     differed(ticket, target.word as u16, out)
 }
 
-// The next claim of an edit: one swap.
+// The next claim of an edit: one swap. A view's differs in the swap, in the value that it notes and in what a miss comes to, so that
+// one function of both would be handed all three.
 pub fn claim(
     book: &mut [u64; Limits::WORDS],
     targets: &[Target; Tickets::ROOM],

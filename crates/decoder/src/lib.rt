@@ -29,7 +29,8 @@ fn named_among(leg: u16, others: &[u16]) -> bool
     leg != 0 && others.contains(&leg)
 }
 
-// Whether a leg other than 0 is named twice. Its callers give two to four: inlined there, no loop is left.
+// Whether a leg other than 0 is named twice. Its callers give two to four: inlined there, no loop is left. It passes over 0, where
+// `words::distinct` has every number: one function of both would be handed that test.
 #[inline(always)]
 #[tactic(auto, using(frames::proofs::Ranges::test_alone), unfolding(words::specs::Tests::some_holds))]
 fn named_twice(legs: &[u16]) -> bool
@@ -45,7 +46,7 @@ fn named_twice(legs: &[u16]) -> bool
     false
 }
 
-// team p r h c from to M.
+// team p r h c from to M. Each field is taken by `let .. else`, the form that the scope names, here and in the other edits.
 fn read_add<U: AngleUnit>(part: &[u8]) -> Result<Edit, Refusal>
     requires { length part.now ≡ 14 + measure_size U.minutes }
     ensures { numbered result ≡ add_read U.minutes part.now }
@@ -185,7 +186,8 @@ fn read_move(part: &[u8]) -> Result<Edit, Refusal>
     }))
 }
 
-// The edit of a frame whose kind is an edit's.
+// The edit of a frame whose kind is an edit's. The other kinds stand here too: a type of the edits' kinds alone would be made of this one by
+// this same match.
 pub fn read_edit(kind: Kind, part: &[u8]) -> Result<Edit, Refusal>
     requires { (is_edit_kind (kind_number kind) ≡ true) × (length part.now ≡ length_of_kind (kind_number kind) - 2) }
     ensures { numbered result ≡ read_edit (kind_number kind) part.now }
@@ -201,8 +203,8 @@ pub fn read_edit(kind: Kind, part: &[u8]) -> Result<Edit, Refusal>
     }
 }
 
-// The words that a view names, zeros behind them. They are counted: of a loop over `words.iter_mut().zip(fields)` no fact says what was
-// written through the zip, so that its proof doesn't close.
+// The words that a view names, zeros behind them. The count is the place in the frame, too: of a loop over `words.iter_mut().zip(fields)`,
+// which has none, no fact says what was written through the zip, so that its proof doesn't close.
 fn named_words(part: &[u8], n: usize) -> [u64; Limits::NAMED]
     requires { (n ≤ most_named) × (length part.now ≡ 4 + 2 * n) }
     ensures { result ≡ padded_names (view_words_in part.now) }

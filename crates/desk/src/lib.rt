@@ -76,7 +76,7 @@ pub fn set_words(book: &mut [u64], given: &[u8]) {
 }
 
 // The numbers of a team's targets are counted one target after another: of each its word, its quoted and its new value. One that the room
-// doesn't have is passed over.
+// doesn't have is passed over. Its length is asked of once, before which of the three it is.
 pub fn set_number(targets: &mut [Target], place: usize, number: u64)
     ensures { targets.new ≡ with_number targets.old place number }
 {

@@ -45,21 +45,19 @@ pub fn aim_of(frame: &[u8]) -> Result<Aim, Refusal>
     aim_by_kind(frame, kind)
 }
 
-// The slot that a frame uses: its team's, else the first, which it leaves as it is.
+// The slot that a frame uses: its team's, else the first, which it leaves as it is: an Option would be turned into it at both calls.
 pub fn slot_of(aim: Result<Aim, Refusal>) -> usize
     requires { SlotKnown (aim_numbered aim) }
     ensures { (result ≡ slot_of (aim_numbered aim)) × (result < team_count) }
 {
-    let Ok(aim) = aim else {
-        return 0;
-    };
     match aim {
-        Aim::Look => 0,
-        Aim::Team(_, team) => team as usize,
+        Ok(Aim::Team(_, team)) => team as usize,
+        _ => 0,
     }
 }
 
-// The size of the whole frame at a place, or why there is none.
+// The size of the whole frame at a place, or why there is none. The place is the stream's own number, which counts what was consumed: a
+// slice of the rest would have it counted once more.
 fn next_frame(input: &[u8], at: usize) -> Result<usize, Stop>
     requires { at ≤ length input.now }
     ensures { (result ≡ next_at input.now at) × NextInside input.now at result }
@@ -80,6 +78,7 @@ fn next_frame(input: &[u8], at: usize) -> Result<usize, Stop>
 }
 
 // Whether a whole step of a team stands at a place, told by its first four bytes as one number: most frames are steps.
+// `frames` asks this of a frame that is cut already, and of no team: neither is a part of the other.
 fn is_step_at(input: &[u8], at: usize) -> bool
     requires { at ≤ length input.now }
     ensures { result ≡ step_at input.now at }

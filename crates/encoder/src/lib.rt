@@ -115,7 +115,7 @@ fn write_look(out: &mut [u8; Answer::LONGEST], answer: Option<u64>) -> usize
     count
 }
 
-// Any answer's frame. Returns its bytes.
+// Any answer's frame. Returns its bytes. The output is a slice, as which an array is lent too: an array would be a narrower argument.
 #[inline(always)]
 #[tactic(auto, using(frames::proofs::Framed::fitted), unfolding(frames::specs::Answers::answer_frame))]
 pub fn write(out: &mut [u8], answer: Answer) -> usize

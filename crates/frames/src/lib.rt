@@ -15,14 +15,14 @@ use words::Limits;
 pub mod numbers; // numbers in bytes, read and put
 pub mod head; // refusals 3 to 5, and the part after the kind
 
-// An answer; that to a look has the word's value, and none where the word is held. A refusal is told like the others, and nothing is
-// left undone by it, so that it is no Result.
+// An answer; that to a look has the word's value, and none where the word is held. A refusal is told like every
+// other answer, so that it is no Result.
 #[derive(Clone, Copy)]
 pub enum Answer {
     Standing(u16),
     Step(StepAnswer),
     Look(Option<u64>),
-    // The papers' number, as the other answers' fields are: a Refusal would be turned back into it wherever the answer is written or told.
+    // The number of the frame, as the other answers' fields are: the definitions read an answer back from bytes of any number.
     Refused(u16),
 }
 
@@ -210,7 +210,7 @@ pub enum Refusal {
 }
 
 impl Refusal {
-    // The number that a frame carries, or that a call returns.
+    // The number that a frame carries, or that a call returns: a name for `as`, which says so where a From would not.
     pub fn number(self) -> u16
         ensures { result ≡ refusal_number self }
     {

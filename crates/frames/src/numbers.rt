@@ -17,7 +17,7 @@ impl Bits {
 
 // So many bytes from one on. Each width has a reader and a writer of its own over this and `put`: a trait of the three would want the
 // same six functions in its impls. Each requires that its bytes are there: a cursor over the bytes left would answer none where they
-// are not, which a whole frame never lacks, and the definitions name each field by its place.
+// are not, which a whole frame never lacks, and the definitions name each field by its place, here and wherever one is asked for.
 fn bytes_at<const N: usize>(part: &[u8], at: usize) -> [u8; N]
     requires { at + N ≤ length part.now }
     ensures { result ≡ take N (drop at part.now) }

@@ -1,4 +1,4 @@
--- What a frame leaves: the ticket that its slot then says, the words, and its answer at a place of the output.
+-- What a frame leaves: the ticket that its slot then says, the words, and its answer at the front of an output.
 use Rattle.std.specs.Prelude.{ℕ, ◌≡◌, false, cond, List, eqb, unwrap_or, Result, Ok, Err}
 use Rattle.words.specs.Words.{Words}
 use Rattle.legs.specs.Positions.{Ranks}
@@ -40,7 +40,7 @@ NoStep (Err number) = Unit {0}
 NoStep (Ok Aim.Look) = Unit {0}
 NoStep (Ok (Aim.Team kind team)) = eqb kind step_kind ≡ false
 
--- What a step leaves.
+-- What a frame leaves.
 pub record SettledAs (result : Settled × Words) (targets : List Target) (slot : Slot.Ticket) (words : Words) (out : Bytes) (count : ℕ) (output : Bytes) : Type 0 where
   pub ticket_left : gathered targets slot ≡ result.0.ticket
   pub words_left : words ≡ result.1

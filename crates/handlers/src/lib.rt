@@ -1,22 +1,21 @@
-// What each frame does to its slot, and its answer at a place of the output: a step that does not go the fast way, an edit or
+// What each frame does to its slot, and its answer: a step that does not go the fast way, an edit or
 // a view that opens a ticket, a look, a refusal.
 #![tactic(auto)]
 
 ghost use Rattle.std.specs.Prelude.{◌≡◌, ℕ, true, None, ◌-◌, ◌≤◌, ◌<◌, length};
-ghost use Rattle.words.specs.Words.{words_in_book, team_count};
+ghost use Rattle.words.specs.Words.{team_count};
 ghost use Rattle.tickets.specs.declared.Ticket as Slot;
 ghost use Rattle.tickets.specs.Tickets.{SlotWellMade, slot_well_made};
 ghost use Rattle.tickets.specs.Table.{gathered};
-ghost use Rattle.frames.specs.Requests.{part_after_kind, view_words_in, step_kind};
+ghost use Rattle.frames.specs.Requests.{part_after_kind};
 ghost use Rattle.frames.specs.Numbers.{number16};
-ghost use Rattle.frames.specs.Fields.{Whole, ViewFields, read_edit, view_read};
+ghost use Rattle.frames.specs.Fields.{Whole, read_edit};
 ghost use Rattle.frames.specs.Requests.{look_kind};
 ghost use Rattle.frames.specs.Refusals.{refusal_number};
 ghost use Rattle.frames.specs.Kinds.{kind_number};
-ghost use Rattle.frames.specs.Answers.{longest_answer, answer_frame, written, PutAt};
+ghost use Rattle.frames.specs.Answers.{longest_answer, answer_frame, written};
 ghost use Rattle.frames.specs.declared.Answer.TheVariants as Answer;
-ghost use Rattle.calls.specs.Way.{aimed, aim_numbered, AimKnown, slot_of, look_answer, open_settled, view_settled, EditFields, settled_by};
-ghost use Rattle.replies.specs.Leaving.{RoomAt};
+ghost use Rattle.calls.specs.Way.{aimed, aim_numbered, AimKnown, look_answer, settled_by};
 ghost use Rattle.claiming.specs.Missing.{MissesIn};
 ghost use Rattle.quick.specs.declared.Tried.TheVariants.{Missed};
 ghost use Rattle.handlers.specs.Settling.{open_by, NoStep, AskedAs, OpenedBy, OpenedAs, StepLeft};
@@ -29,7 +28,8 @@ use replies::Left;
 use tickets::{Target, Ticket, Tickets};
 use words::Limits;
 
-// What a frame that is no step leaves: the ticket that it opens, if it does, and the bytes of its answer.
+// What a frame that is no step leaves: the ticket that it opens, if it does, and the bytes of its answer. A struct of its own beside
+// `Left`: what the stream knows of a slot it tells anew only where there is a ticket.
 #[derive(Clone, Copy)]
 pub struct Opened {
     pub ticket: Option<Ticket>,
@@ -49,7 +49,8 @@ fn look_answer(book: &[u64; Limits::WORDS], frame: &[u8]) -> Answer
     Answer::Refused(Refusal::Range.number())
 }
 
-// Whether a slot passes: in a table of which that is known it is not tested again.
+// Whether a slot passes: in a table of which that is known it is not tested again. What is known is so of this slot, and the stream
+// knows it of all: a struct would be made of each slot anew.
 fn known_well_made(targets: &[Target; Tickets::ROOM], ticket: Ticket, known: bool) -> bool
     requires { known ≡ true → SlotWellMade (gathered targets.now ticket) }
     ensures { result ≡ slot_well_made (gathered targets.now ticket) }
@@ -134,7 +135,9 @@ fn answer_other(
     }
 }
 
-// A frame that is no team's step: it changes no word. Its answer is at the front of the output.
+// A frame that is no team's step: it changes no word. Its answer is at the front of the output, which is a slice, here and in
+// `other_step`: of the room taken from a part of the output in the stream's loop, no fact says how the whole is written through it, so that
+// the proof there doesn't close. What is known of the aim is so of this frame: a struct of both would be taken apart here.
 pub fn other_frame(
     book: &[u64; Limits::WORDS],
     targets: &mut [Target; Tickets::ROOM],

@@ -172,6 +172,7 @@ impl State {
         tell_tickets(stdout, &self.tickets)
     }
 
+    // Tags are a program's own, so that each looks its own up in a match of its own.
     fn dispatch(&mut self, stdout: Stdout, call: Call<'_>) -> io::Result<()> {
         let Ok(tag) = Tag::try_from(call.tag) else {
             return Ok(());

@@ -15,7 +15,8 @@ use legs::distance_in;
 use stations::{Size, SoundBook, WrittenLeg};
 use words::Limits;
 
-// An output, and the place in it where the next word goes.
+// An output, and the place in it where the next word goes. That it has room is asked of the words that each function writes, which no
+// invariant can say of all.
 #[derive(Drop)]
 pub struct Output<'a> {
     pub words: &'a mut [u64],
@@ -31,7 +32,7 @@ impl<'a> Output<'a> {
         self.at += 1;
     }
 
-    // Puts the two words of a leg, or of a pair.
+    // Puts the two words of a leg, or of a pair: both at once, so that room is asked of once.
     fn put_two(&mut self, first: u64, second: u64)
         requires { HasRoom self.old (first ∷ second ∷ []) }
         ensures { HasWritten self.old (first ∷ second ∷ []) self.new }

@@ -112,7 +112,7 @@ fn tell_outcome(stdout: Stdout, outcome: Result<(), Refusal>) -> io::Result<()> 
 }
 
 // Room for the ranks lent, of which the first so many are in force.
-// No heap: the room is an array with their number beside it, since a slice would borrow from the state that keeps both.
+// The room behind the number is kept and read as well, so that it is no list of the ranks in force alone.
 #[derive(Clone, Copy)]
 struct Ranks {
     room: [u16; Lent::RANKS],
@@ -196,6 +196,7 @@ impl State {
         self.ranks = self.ranks.with_table(&legs::fixed_ranks());
     }
 
+    // The parts that are lent are split off, since a part taken by its range isn't lent through the several fields at once.
     fn answer(&mut self, stdout: Stdout, call: Call<'_>) -> io::Result<()> {
         let State {
             words,

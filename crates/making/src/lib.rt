@@ -24,7 +24,8 @@ pub fn targets_well_made(targets: &[Target]) -> bool
     targets.iter().all(|target| target_well_made(target))
 }
 
-// Whether the words that a view names are distinct, and its targets in some order.
+// Whether the words that a view names are distinct, and its targets in some order. Names and words are taken out, since the tests are of
+// numbers.
 pub fn names_well_made(targets: &[Target; Tickets::ROOM], n: u16) -> bool
     requires { n ≤ target_room }
     ensures { result ≡ names_well_made (named_in (targets_of targets.now n)) (words_in (targets_of targets.now n)) }
@@ -43,9 +44,15 @@ pub fn names_well_made(targets: &[Target; Tickets::ROOM], n: u16) -> bool
 
 // The counts are those of the phase.
 #[tactic(auto, unfolding(words::specs::Tests::all_hold))]
-fn counts_fit(phase: Phase, n: u16, claimed: u16, done: u16) -> bool
-    ensures { result ≡ counts_well_made phase n claimed done }
+fn counts_fit(phase: Phase, ticket: Ticket) -> bool
+    ensures { result ≡ counts_well_made phase ticket.n ticket.claimed ticket.done }
 {
+    let Ticket {
+        n,
+        claimed,
+        done,
+        ..
+    } = ticket;
     match phase {
         Phase::NoTicket => false,
         Phase::Claiming => claimed < n,
@@ -91,7 +98,7 @@ pub fn well_made(targets: &[Target; Tickets::ROOM], ticket: Ticket) -> bool
         return false;
     }
     let phase = ticket.phase();
-    if !counts_fit(phase, ticket.n, ticket.claimed, ticket.done) {
+    if !counts_fit(phase, ticket) {
         return false;
     }
     if !view {

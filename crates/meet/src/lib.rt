@@ -41,9 +41,7 @@ fn write_list(
 pub fn meet(book: &[u64], station: u16, out: &mut [u64]) -> Result<usize, Refusal>
     ensures { (numbered result, out.new) ≡ meeting_of book.now station out.old }
 {
-    let Some(whole) = book.as_array::<{ Limits::WORDS }>() else {
-        return Err(Refusal::Book);
-    };
+    let whole = book.as_array::<{ Limits::WORDS }>().ok_or(Refusal::Book)?;
     if !is_plain(whole, LegLayout::FourWords) {
         return Err(Refusal::Unsound);
     }

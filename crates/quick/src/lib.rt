@@ -15,7 +15,8 @@ use tickets::{Kind, SwapTried, Target, Ticket, Tickets};
 use words::Limits;
 
 // What came of the next swap of an edit on the fast way: it went through, told with whether it was a claim; or it was a claim
-// that missed, told with what it found; or none was tried.
+// that missed, told with what it found; or none was tried. Whether it was a claim is a bool, since `chosen` goes by it: a match on an
+// enum would be the branch that this way has not.
 #[derive(Clone, Copy)]
 pub enum Tried {
     Went(bool),

@@ -39,7 +39,8 @@ pub fn is_permutation(ranks: &[u16]) -> bool
     found.iter().all(|mark| *mark)
 }
 
-// The same ranks as accepted ones, if they can be in force.
+// The same ranks as accepted ones, if they can be in force. An early return: a closure under `then` would have to ask for the test again,
+// since the invariant is proved from it.
 pub fn accepted(ranks: &[u16]) -> Option<AcceptedRanks>
     ensures { result ≡ cond (is_permutation ranks.now) (Some ranks.now) None }
 {

@@ -11,7 +11,8 @@ use replies::Left;
 use tickets::{StepAnswer, Target, Ticket, Tickets};
 use words::Limits;
 
-// The next put of an edit: one swap.
+// The next put of an edit: one swap. It differs from a give-back in the value, in the ticket after it and in both answers, so that one
+// function of both would be handed all four.
 pub fn put(
     book: &mut [u64; Limits::WORDS],
     targets: &[Target; Tickets::ROOM],
@@ -31,7 +32,8 @@ pub fn put(
     replies::leave(after, StepAnswer::Granted(after.tries), out)
 }
 
-// The next give-back of an edit found stale: one swap; the last names the word that differed.
+// The next give-back of an edit found stale: one swap; the last names the word that differed, where a view's shows its values: of both
+// one function would be handed these last lines.
 pub fn give_back(
     book: &mut [u64; Limits::WORDS],
     targets: &[Target; Tickets::ROOM],

@@ -1,4 +1,4 @@
-// What every step of a ticket takes and leaves: a target of its team, an answer put at a place of the output.
+// What every step of a ticket takes and leaves: a target of its team, an answer.
 #![tactic(auto)]
 
 ghost use Rattle.std.specs.Prelude.{◌≡◌, ◌<◌};

@@ -66,7 +66,8 @@ fn goes_on(stop: Stop) -> bool
 impl Server<'_, '_> {
     ghost use Rattle.serve.specs.Serving.{end_of, served_of, served_after, served_by, SameLoans};
 
-    // What is written at the end of the input, where `have` bytes are kept: Refused 3 for a torn last frame.
+    // What is written at the end of the input, where `have` bytes are kept: Refused 3 for a torn last frame. It is
+    // lent the output alone, since of the server nothing else changes.
     fn at_end(out: &mut [u8], have: usize) -> usize
         requires { longest_answer ≤ length out.old }
         ensures { ((result, out.new) ≡ end_of out.old have) × (result ≤ length out.old) }

@@ -29,7 +29,8 @@ impl Size {
     pub const ENTRY: usize = 2;
 }
 
-// How many legs of a passage are there.
+// How many legs of a passage are there. The book and the station go side by side: the one is asked of the other, and a struct of both
+// would be made for one list alone.
 fn count_of(book: SoundBook, station: u16, passage: u16) -> usize
     requires { passage < passage_count }
     ensures { result ≡ length (those_meeting station (list_in FourWords book.entry.words.now passage)) }
@@ -65,7 +66,8 @@ fn with_passage(size: Size, count: usize) -> Size
     }
 }
 
-// The size of the list, from the last passage on: each finds those after it counted.
+// The size of the list, from the last passage on: each finds those after it counted. A loop and no fold, whose closure would have to ask
+// that the size so far is small.
 pub fn size_of(counts: [usize; Limits::PASSAGES as usize]) -> Size
     requires { sum counts ≤ last_leg }
     ensures { result ≡ size_of counts }

@@ -1,4 +1,4 @@
-// One step of a standing, well-made ticket: its swap made, and its answer put at a place of the output. One look.
+// One step of a standing, well-made ticket: its swap made, and its answer written in the room for one. One look.
 #![tactic(auto)]
 
 ghost use Rattle.std.specs.Prelude.{◌≡◌, ◌<◌, length};

@@ -24,13 +24,6 @@ impl Buffers {
     const OUTPUT: usize = Buffers::RATIO * Buffers::INPUT + Answer::LONGEST;
 }
 
-// A write that fails is passed over.
-fn write_front(stdout: Stdout, out: &[u8], count: usize)
-    requires { count ≤ length out.now }
-{
-    let _ = stdout.write_all(&out[..count]);
-}
-
 // Reads what there is behind the bytes that are kept, which stay; how many came. There is room for one at least, so that
 // 0 is the end of the input or a read that failed.
 // No plainer as an `Option`: `Read` itself tells the end by 0, and `after_read` takes the number.
@@ -51,9 +44,12 @@ fn serve_all(stdin: Stdin, stdout: Stdout, server: &mut Server)
     for _ in 0..u64::MAX {
         let input = &mut server.input;
         let got = read_more(stdin, input);
-        match server.after_read(got) {
-            ControlFlow::Continue(written) => write_front(stdout, server.out, written),
-            ControlFlow::Break(written) => return write_front(stdout, server.out, written),
+        let turn = server.after_read(got);
+        let (ControlFlow::Continue(written) | ControlFlow::Break(written)) = turn;
+        // A write that fails is passed over.
+        let _ = stdout.write_all(&server.out[..written]);
+        if turn.is_break() {
+            return;
         }
     }
 }

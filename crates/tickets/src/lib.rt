@@ -20,7 +20,8 @@ pub struct Target {
 }
 
 // The phase of a ticket; "no ticket" is that of an empty slot. An edit is claiming, then putting or giving back; a view (in
-// the literature: an atomic multi-word read, or snapshot) claims, then gives back. A view that is putting can't be written.
+// the literature: an atomic multi-word read, or snapshot) claims, then gives back. A view that is putting can't be written. That there is
+// none is a phase too: the definitions go by all six, and an Option would be taken apart wherever a phase is matched.
 #[derive(Clone, Copy)]
 pub enum Phase {
     NoTicket,
@@ -41,7 +42,7 @@ pub enum Kind {
 
 // A ticket (in the source document: a multi-word compare-and-swap descriptor) in its team's slot: how many targets it has,
 // how many are claimed, how many are done, and its tries. Its phase follows from these. It is small, so that it goes by value
-// at no cost; its targets stand beside it in the slot.
+// at no cost; its targets stand beside it in the slot, and are lent apart from it: a step reads them while it makes the next ticket.
 #[derive(Clone, Copy)]
 pub struct Ticket {
     pub tries: u32,
@@ -51,7 +52,7 @@ pub struct Ticket {
     pub kind: Kind,
 }
 
-// What is kept for a team: its ticket, and room for the targets. A view keeps the values that it found where an edit keeps those it
+// What is kept for a team: its ticket, and room for the targets, since there is no heap: how many stand there, the ticket says. A view keeps the values that it found where an edit keeps those it
 // quotes, and the words in the order named where an edit keeps new values.
 #[derive(Clone, Copy)]
 pub struct Slot {
@@ -85,7 +86,8 @@ pub enum StepAnswer {
     Seen(Values),
 }
 
-// What a view has seen: the values of its n words, in the order named; room not used is zeros.
+// What a view has seen: the values of its n words, in the order named; room not used is zeros. There is no heap, and a slice would
+// borrow from the table that is written: the number stands beside the array.
 #[derive(Clone, Copy)]
 pub struct Values {
     pub n: u16,
@@ -122,14 +124,15 @@ impl Ticket {
         }
     }
 
-    // The slot of a team with no ticket: an edit's of no targets, all of which are done.
+    // The slot of a team with no ticket: an edit's of no targets, all of which are done. A finished ticket is gone and says so by its
+    // counts, so that an Option would be a second way to say it.
     pub fn none() -> Ticket
         ensures { result ≡ no_slot }
     {
         Ticket::opened(Kind::Edit, 0)
     }
 
-    // An edit's ticket of n targets, just opened,
+    // An edit's ticket of n targets, just opened, whose kind is in the name,
     pub fn edit(n: u16) -> Ticket
         ensures { result ≡ opened_slot Edit n }
     {
@@ -168,7 +171,7 @@ impl Ticket {
         }
     }
 
-    // The tries after one more. The scope names the number at which they stop, so that it is compared with and not left to the type.
+    // The tries after one more. The scope names this constant, at which they stop, so that it is not left to the type's.
     fn tried(self) -> u32
         ensures { result ≡ one_more_try self.tries }
     {

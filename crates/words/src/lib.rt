@@ -68,7 +68,8 @@ pub fn is_held(word: u64) -> bool
     Limits::HELD <= word
 }
 
-// The mark (in the literature: the descriptor's address with its control bit) of a team.
+// The mark (in the literature: the descriptor's address with its control bit) of a team. A team's number comes from a frame or counts
+// the slots: a type with the bound would be made anew at each, from this same fact, here and wherever it is asked for.
 pub fn mark(team: u16) -> u64
     requires { team < team_count }
     ensures { result ≡ mark_of team }
@@ -106,6 +107,7 @@ pub fn count_word(passage: u16) -> u16
     newest_word(passage) + 1
 }
 
+// A match of its own, as `last_leg_in` has: of a struct of a layout's two numbers each caller would take one.
 fn leg_words(layout: LegLayout) -> u16
     ensures { result ≡ leg_words layout }
 {
@@ -141,6 +143,7 @@ pub fn link_word(leg: u16) -> u16
     link_word_in(LegLayout::FourWords, leg)
 }
 
+// Each word of a leg has a function by its name, as the layout names it.
 pub fn place_word(leg: u16) -> u16
     requires { (1 ≤ leg) × (leg ≤ last_leg) }
     ensures { result ≡ place_word leg }
@@ -162,7 +165,8 @@ pub fn newer_word(leg: u16) -> u16
     link_word(leg) + 3
 }
 
-// One read of one word (Figure 8, without its loop).
+// One read of one word (Figure 8, without its loop). Words of any number are taken, here and by the swaps: an array of a book's would
+// be a narrower argument.
 pub fn read(book: &[u64], at: usize) -> u64
     requires { at < length book.now }
     ensures { result ≡ read_of book.now at }
