@@ -1,20 +1,21 @@
 // The claims of an edit: one more word, or a claim that misses.
 #![tactic(auto)]
 
-ghost use Rattle.std.specs.Prelude.{◌≡◌};
+ghost use Rattle.std.specs.Prelude.{◌≡◌, ◌≤◌, length};
 ghost use Rattle.tickets.specs.declared.Phase.TheVariants.{Claiming};
 ghost use Rattle.tickets.specs.Steps.{step_of};
 ghost use Rattle.tickets.specs.Table.{gathered};
+ghost use Rattle.frames.specs.Answers.{longest_answer};
 ghost use Rattle.replies.specs.Leaving.{Answered, StepsFrom, LeftBy};
 ghost use Rattle.claiming.specs.Missing.{differed_slot, differed_answer, MissesIn, MissLeft};
 
-use frames::Answer;
 use replies::Left;
 use tickets::{StepAnswer, Target, Ticket, Tickets};
 use words::Limits;
 
 // Found stale: at once where nothing is claimed, else it gives back first.
-fn differed(ticket: Ticket, word: u16, out: &mut [u8; Answer::LONGEST]) -> Left
+fn differed(ticket: Ticket, word: u16, out: &mut [u8]) -> Left
+    requires { longest_answer ≤ length out.old }
     ensures ticket { result.ticket ≡ differed_slot ticket }
     ensures answer { Answered out.old (differed_answer ticket word) result.written out.new }
 {
@@ -27,13 +28,8 @@ fn differed(ticket: Ticket, word: u16, out: &mut [u8; Answer::LONGEST]) -> Left
 }
 
 // A claim of an edit that found something else than quoted: it waits, or is found stale.
-pub fn missed(
-    targets: &[Target; Tickets::ROOM],
-    ticket: Ticket,
-    found: u64,
-    out: &mut [u8; Answer::LONGEST],
-) -> Left
-    requires { MissesIn targets.now ticket }
+pub fn missed(targets: &[Target; Tickets::ROOM], ticket: Ticket, found: u64, out: &mut [u8]) -> Left
+    requires { MissesIn targets.now ticket × (longest_answer ≤ length out.old) }
     ensures { MissLeft targets.now ticket found result.ticket out.old result.written out.new }
 {
     let target = replies::target_at(targets, ticket.claimed);
@@ -50,9 +46,9 @@ pub fn claim(
     targets: &[Target; Tickets::ROOM],
     ticket: Ticket,
     team: usize,
-    out: &mut [u8; Answer::LONGEST],
+    out: &mut [u8],
 ) -> Left
-    requires { StepsFrom Claiming targets.now team ticket }
+    requires { StepsFrom Claiming targets.now team ticket out.old }
     ensures { LeftBy (step_of book.old (gathered targets.now ticket) team) targets.now result.ticket book.new out.old result.written out.new }
 {
     let target = replies::target_at(targets, ticket.claimed);

@@ -135,9 +135,9 @@ fn answer_other(
     }
 }
 
-// A frame that is no team's step: it changes no word. Its answer is at the front of the output, which is a slice, here and in
-// `other_step`: of the room taken from a part of the output in the stream's loop, no fact says how the whole is written through it, so that
-// the proof there doesn't close. What is known of the aim is so of this frame: a struct of both would be taken apart here.
+// A frame that is no team's step: it changes no word. Its answer is at the front of the output, which is a slice: of the room taken from a
+// part of the output in the stream's loop, no fact says how the whole is written through it, so that the proof there doesn't close. What is
+// known of the aim is so of this frame: a struct of both would be taken apart here.
 pub fn other_frame(
     book: &[u64; Limits::WORDS],
     targets: &mut [Target; Tickets::ROOM],
@@ -156,38 +156,14 @@ pub fn other_frame(
     answer_other(book, targets, ranks, ticket, frame, aim, room)
 }
 
-fn refuse(ticket: Ticket, refusal: Refusal, out: &mut [u8; Answer::LONGEST]) -> Left
+fn refuse(ticket: Ticket, refusal: Refusal, out: &mut [u8]) -> Left
+    requires { longest_answer ≤ length out.old }
     ensures { (result.ticket ≡ ticket) × ((result.written, out.new) ≡ written out.old (answer_frame (Answer.Refused (refusal_number refusal)))) }
 {
     Left {
         ticket,
         written: encoder::write(out, Answer::Refused(refusal.number())),
     }
-}
-
-// What a step off the fast way leaves, its answer in the room for one.
-fn answer_step(
-    book: &mut [u64; Limits::WORDS],
-    targets: &mut [Target; Tickets::ROOM],
-    ticket: Ticket,
-    team: usize,
-    tried: Tried,
-    known: bool,
-    out: &mut [u8; Answer::LONGEST],
-) -> Left
-    requires { (team < team_count) × ((found : ℕ) → tried ≡ Missed found → MissesIn targets.old ticket) × (known ≡ true → SlotWellMade (gathered targets.old ticket)) }
-    ensures { StepLeft book.old targets.old team ticket tried result.ticket book.new targets.new out.old result.written out.new }
-{
-    if let Tried::Missed(found) = tried {
-        return claiming::missed(targets, ticket, found, out);
-    }
-    if !ticket.stands() {
-        return refuse(ticket, Refusal::NoTicket, out);
-    }
-    if !known_well_made(targets, ticket, known) {
-        return refuse(ticket, Refusal::Ticket, out);
-    }
-    steps::step(book, targets, ticket, team, out)
 }
 
 // A step that does not go through on the fast way: a claim that missed there, or one that was not tried there. Its answer is at the
@@ -204,8 +180,14 @@ pub fn other_step(
     requires { (team < team_count) × ((found : ℕ) → tried ≡ Missed found → MissesIn targets.old ticket) × (known ≡ true → SlotWellMade (gathered targets.old ticket)) × (longest_answer ≤ length out.old) }
     ensures { StepLeft book.old targets.old team ticket tried result.ticket book.new targets.new out.old result.written out.new }
 {
-    let Some(room) = out.first_chunk_mut() else {
-        unreachable!()
-    };
-    answer_step(book, targets, ticket, team, tried, known, room)
+    if let Tried::Missed(found) = tried {
+        return claiming::missed(targets, ticket, found, out);
+    }
+    if !ticket.stands() {
+        return refuse(ticket, Refusal::NoTicket, out);
+    }
+    if !known_well_made(targets, ticket, known) {
+        return refuse(ticket, Refusal::Ticket, out);
+    }
+    steps::step(book, targets, ticket, team, out)
 }

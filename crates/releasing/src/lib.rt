@@ -6,7 +6,6 @@ ghost use Rattle.tickets.specs.Steps.{step_of};
 ghost use Rattle.tickets.specs.Table.{gathered};
 ghost use Rattle.replies.specs.Leaving.{StepsFrom, LeftBy};
 
-use frames::Answer;
 use replies::Left;
 use tickets::{StepAnswer, Target, Ticket, Tickets};
 use words::Limits;
@@ -18,9 +17,9 @@ pub fn put(
     targets: &[Target; Tickets::ROOM],
     ticket: Ticket,
     team: usize,
-    out: &mut [u8; Answer::LONGEST],
+    out: &mut [u8],
 ) -> Left
-    requires { StepsFrom Putting targets.now team ticket }
+    requires { StepsFrom Putting targets.now team ticket out.old }
     ensures { LeftBy (step_of book.old (gathered targets.now ticket) team) targets.now result.ticket book.new out.old result.written out.new }
 {
     let target = replies::target_at(targets, ticket.done);
@@ -39,9 +38,9 @@ pub fn give_back(
     targets: &[Target; Tickets::ROOM],
     ticket: Ticket,
     team: usize,
-    out: &mut [u8; Answer::LONGEST],
+    out: &mut [u8],
 ) -> Left
-    requires { StepsFrom GivingBack targets.now team ticket }
+    requires { StepsFrom GivingBack targets.now team ticket out.old }
     ensures { LeftBy (step_of book.old (gathered targets.now ticket) team) targets.now result.ticket book.new out.old result.written out.new }
 {
     let target = replies::target_at(targets, ticket.done);

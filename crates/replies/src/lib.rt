@@ -1,11 +1,11 @@
 // What every step of a ticket takes and leaves: a target of its team, an answer.
 #![tactic(auto)]
 
-ghost use Rattle.std.specs.Prelude.{◌≡◌, ◌<◌};
+ghost use Rattle.std.specs.Prelude.{◌≡◌, ◌≤◌, ◌<◌, length};
 ghost use Rattle.words.specs.Words.{words_in_book, team_count, mark_of, holder_of, swap_of};
 ghost use Rattle.tickets.specs.declared.StepAnswer.TheVariants.{Waiting};
 ghost use Rattle.tickets.specs.Table.{target_room, target_standing, tried_slot};
-ghost use Rattle.frames.specs.Answers.{answer_frame, PutAt};
+ghost use Rattle.frames.specs.Answers.{answer_frame, longest_answer, PutAt};
 ghost use Rattle.replies.specs.Leaving.{RoomAt, Answered};
 
 use frames::Answer;
@@ -46,9 +46,11 @@ pub fn put(out: &mut [u8], at: usize, answer: Answer) -> usize
     at + encoder::write(&mut out[at..], answer)
 }
 
-// The ticket that a step leaves, and the step's answer, written where there is room for any.
+// The ticket that a step leaves, and the step's answer at the front of the output. The output is a slice, as `encoder::write` takes it: an
+// array of as many bytes as the longest answer has would be a narrower argument.
 #[inline(always)]
-pub fn leave(ticket: Ticket, answer: StepAnswer, out: &mut [u8; Answer::LONGEST]) -> Left
+pub fn leave(ticket: Ticket, answer: StepAnswer, out: &mut [u8]) -> Left
+    requires { longest_answer ≤ length out.old }
     ensures ticket { result.ticket ≡ ticket }
     ensures answer { Answered out.old answer result.written out.new }
 {
@@ -59,7 +61,8 @@ pub fn leave(ticket: Ticket, answer: StepAnswer, out: &mut [u8; Answer::LONGEST]
 }
 
 // A claim that found a mark: the ticket waits, and its answer tells the holder.
-pub fn waited(ticket: Ticket, word: u16, found: u64, out: &mut [u8; Answer::LONGEST]) -> Left
+pub fn waited(ticket: Ticket, word: u16, found: u64, out: &mut [u8]) -> Left
+    requires { longest_answer ≤ length out.old }
     ensures ticket { result.ticket ≡ tried_slot ticket ticket.kind ticket.claimed ticket.done }
     ensures answer { Answered out.old (Waiting word (holder_of found)) result.written out.new }
 {

@@ -1,4 +1,4 @@
-// One step of a standing, well-made ticket: its swap made, and its answer written in the room for one. One look.
+// One step of a standing, well-made ticket: its swap made, and its answer written at the front of the output. One look.
 #![tactic(auto)]
 
 ghost use Rattle.std.specs.Prelude.{◌≡◌, ◌<◌, length};
@@ -6,7 +6,6 @@ ghost use Rattle.tickets.specs.Steps.{step_of, look_of};
 ghost use Rattle.tickets.specs.Table.{gathered};
 ghost use Rattle.replies.specs.Leaving.{StepsIn, LeftBy};
 
-use frames::Answer;
 use replies::Left;
 use tickets::{Phase, Target, Ticket, Tickets};
 use words::Limits;
@@ -18,9 +17,9 @@ pub fn step(
     targets: &mut [Target; Tickets::ROOM],
     ticket: Ticket,
     team: usize,
-    out: &mut [u8; Answer::LONGEST],
+    out: &mut [u8],
 ) -> Left
-    requires { StepsIn targets.old team ticket }
+    requires { StepsIn targets.old team ticket out.old }
     ensures { LeftBy (step_of book.old (gathered targets.old ticket) team) targets.new result.ticket book.new out.old result.written out.new }
 {
     match ticket.phase() {

@@ -8,7 +8,6 @@ ghost use Rattle.tickets.specs.Steps.{value_noted, values_seen, step_of};
 ghost use Rattle.tickets.specs.Table.{target_room, noted_at, targets_of, gathered};
 ghost use Rattle.replies.specs.Leaving.{StepsFrom, LeftBy};
 
-use frames::Answer;
 use replies::Left;
 use tickets::{StepAnswer, Target, Ticket, Tickets, Values};
 use words::Limits;
@@ -27,9 +26,9 @@ pub fn view_claim(
     targets: &mut [Target; Tickets::ROOM],
     ticket: Ticket,
     team: usize,
-    out: &mut [u8; Answer::LONGEST],
+    out: &mut [u8],
 ) -> Left
-    requires { StepsFrom Viewing targets.old team ticket }
+    requires { StepsFrom Viewing targets.old team ticket out.old }
     ensures { LeftBy (step_of book.old (gathered targets.old ticket) team) targets.new result.ticket book.new out.old result.written out.new }
 {
     let target = replies::target_at(targets, ticket.claimed);
@@ -73,9 +72,9 @@ pub fn view_give_back(
     targets: &[Target; Tickets::ROOM],
     ticket: Ticket,
     team: usize,
-    out: &mut [u8; Answer::LONGEST],
+    out: &mut [u8],
 ) -> Left
-    requires { StepsFrom Viewed targets.now team ticket }
+    requires { StepsFrom Viewed targets.now team ticket out.old }
     ensures { LeftBy (step_of book.old (gathered targets.now ticket) team) targets.now result.ticket book.new out.old result.written out.new }
 {
     let target = replies::target_at(targets, ticket.done);

@@ -28,7 +28,7 @@ returns-then-found-target c =
 pub missed-requires : goal.missed-requires
 missed-requires c =
     let args = c.args in
-    misses_in args.book.now args.targets.now args.team args.ticket args.out.now c.requires
+    (misses_in args.book.now args.targets.now args.team args.ticket args.out.now c.requires, c.requires.steps_in.room)
 
 pub returns : goal.returns
 returns c =
