@@ -119,8 +119,24 @@ pub enum Kind {
 }
 
 impl Kind {
-    // A step's number stands in the number that its frame begins with, too.
-    const STEP: u16 = 5;
+    // The papers' numbers, by which a frame says its kind.
+    pub const ADD: u16 = 1;
+
+    pub const CORRECT: u16 = 2;
+
+    pub const STRIKE: u16 = 3;
+
+    pub const MOVE: u16 = 4;
+
+    pub const STEP: u16 = 5;
+
+    pub const LOOK: u16 = 6;
+
+    pub const VIEW: u16 = 7;
+
+    pub const ADD_IN_MINUTES: u16 = 17;
+
+    pub const CORRECT_IN_MINUTES: u16 = 18;
 
     // Whether it is an edit's.
     pub fn is_edit(self) -> bool
@@ -169,15 +185,15 @@ impl TryFrom<u16> for Kind {
 
     fn try_from(number: u16) -> Result<Kind, Refusal> {
         match number {
-            1 => Ok(Kind::Add),
-            2 => Ok(Kind::Correct),
-            3 => Ok(Kind::Strike),
-            4 => Ok(Kind::Move),
+            Kind::ADD => Ok(Kind::Add),
+            Kind::CORRECT => Ok(Kind::Correct),
+            Kind::STRIKE => Ok(Kind::Strike),
+            Kind::MOVE => Ok(Kind::Move),
             Kind::STEP => Ok(Kind::Step),
-            6 => Ok(Kind::Look),
-            7 => Ok(Kind::View),
-            17 => Ok(Kind::AddInMinutes),
-            18 => Ok(Kind::CorrectInMinutes),
+            Kind::LOOK => Ok(Kind::Look),
+            Kind::VIEW => Ok(Kind::View),
+            Kind::ADD_IN_MINUTES => Ok(Kind::AddInMinutes),
+            Kind::CORRECT_IN_MINUTES => Ok(Kind::CorrectInMinutes),
             _ => Err(Refusal::Kind),
         }
     }

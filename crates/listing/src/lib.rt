@@ -48,7 +48,9 @@ fn write_leg(leg: WrittenLeg, station: u16, out: &mut Output)
     ensures { HasWritten out.old (listed_words (those_meeting station (leg_of leg ∷ []))) out.new }
 {
     if leg.is_at(station) {
-        out.put_two(u64::from(leg.number), distance_in(leg.measure));
+        let number = u64::from(leg.number);
+        let distance = distance_in(leg.measure);
+        out.put_two(number, distance);
     }
 }
 

@@ -15,25 +15,27 @@ use Rattle.tickets.specs.declared.Ticket as Slot
 use Rattle.tickets.specs.declared.Slot as Kept
 use Rattle.tickets.specs.declared.Tickets as Table
 use Rattle.tickets.specs.Tickets.{Ticket, no_ticket, fresh_tickets, ticket_of, with_ticket, target, target_at, targets_from, targets_in, padded}
-use Rattle.tickets.specs.Table.{no_target, target_standing, opened_slot, word_in, quoted_in, new_in, column, fresh_slot, absent_slot, standing, targets_of, gathered, ticket_said, table_of, slot_of, NumbersBehindAreFree}
+use Rattle.tickets.specs.Table.{no_target, target_standing, opened_slot, word_in, quoted_in, new_in, column, no_slot, absent_slot, standing, targets_of, gathered, ticket_said, table_of, slot_of, NumbersBehindAreFree}
 use Rattle.tickets.proofs.TargetLists.{length_targets, target_listed}
 use Rattle.tickets.proofs.Gathering.{gathered_stands, gathered_gone}
 
--- Empty slots say no ticket, whatever targets stand in them.
-fresh_said : ticket_said fresh_slot ≡ no_ticket
+-- Slots with no ticket say none, whatever targets stand in them.
+abbrev unused : List Target → Kept.Slot
+unused targets = record { ticket = no_slot; targets = targets }
+
+unused_said : (targets : List Target) → ticket_said (unused targets) ≡ no_ticket
 unfolding gathered
-fresh_said = refl
+unused_said targets = refl
 
 absent_said : ticket_said absent_slot ≡ no_ticket
-unfolding gathered
-absent_said = refl
+absent_said = unused_said []
 
-none_from : (many : ℕ) → map ticket_said (replicate many fresh_slot) ≡ replicate many no_ticket
-none_from zero = refl
-none_from (suc many) = λ i. fresh_said i ∷ none_from many i
+none_from : (rooms : List (List Target)) → map ticket_said (map unused rooms) ≡ replicate (length rooms) no_ticket
+none_from [] = refl
+none_from (room ∷ rooms) = λ i. unused_said room i ∷ none_from rooms i
 
-pub fresh_table : table_of record { slots = replicate team_count fresh_slot } ≡ fresh_tickets
-fresh_table = λ i. record { slots = none_from team_count i }
+pub fresh_table : (rooms : List (List Target)) → length rooms ≡ team_count → table_of record { slots = map unused rooms } ≡ fresh_tickets
+fresh_table rooms many = λ i. record { slots = (none_from rooms ∙ ap (λ (n : ℕ). replicate n no_ticket) many) i }
 
 -- A team's ticket in the gathered table is the one that its slot says.
 slot_from : (k : ℕ) (slots : List Kept.Slot) → get_or (map ticket_said slots) k no_ticket ≡ ticket_said (get_or slots k absent_slot)
