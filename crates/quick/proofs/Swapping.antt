@@ -1,12 +1,13 @@
 -- The swap of an edit on the fast way, by the place of its value, is the one that the definition tries.
-use Prim.Native.Nat.{ℕ, ◌≤◌, ◌<◌}
+use Prim.Native.Nat.{ℕ, ◌≤◌, ◌<◌, ◌^◌}
 use mathlib.Core.Path.{◌≡◌, refl, sym, ap, ◌∙◌}
-use mathlib.Core.Bool.{Bool, true, false, cond}
+use mathlib.Core.Bool.{Bool, true, false, cond, not}
 use mathlib.Core.List.{List}
+use native.Mathlib.Omega.{arith}
 use mathlib.Core.Logic.{◌⊎◌, inl, inr}
-use borrow.Author.Tests.{eq-eqb, le-ltb, lt-ltb, ltb-true}
+use borrow.Author.Tests.{eq-eqb, le-ltb, lt-ltb, ltb-true, le-leb, lt-leb}
 use lib.Dec.{eqb}
-use Rattle.words.specs.Words.{Words, words_in_book, mark_of}
+use Rattle.words.specs.Words.{Words, words_in_book, mark_of, is_held}
 use Rattle.tickets.specs.declared.Phase.{Phase}
 use Rattle.tickets.specs.declared.Phase.TheVariants.{NoTicket, Claiming, Putting}
 use Rattle.tickets.specs.declared.SwapTried.{SwapTried}
@@ -17,11 +18,7 @@ use Rattle.tickets.specs.Steps.{tries, swap_tried_in, swap_tried}
 use Rattle.tickets.specs.Table.{target_standing, claims_in, phase_by, phase_of, standing, gathered}
 use Rattle.tickets.proofs.Settled.{tried_in}
 use Rattle.replies.proofs.Standing.{is_standing, standing_phase, target_read, target_fits_there}
-use Rattle.quick.specs.Quick.{Quick, claims_quick}
-
--- The next target: to claim, or to put.
-abbrev pub next_of : Bool → Slot.Ticket → ℕ
-next_of claims slot = cond claims slot.claimed slot.done
+use Rattle.quick.specs.Quick.{Quick, claims_quick, next_of}
 
 -- Its swap, with the quoted or the new value.
 abbrev pub swap_by : Target → ℕ → Bool → SwapTried
@@ -69,17 +66,32 @@ module _ (targets : List Target) (team : ℕ) (slot : Slot.Ticket) (quick : Quic
   word_inside = (target_fits_there targets slot quick.made (next_of (claims_quick slot) slot) (next_below (claims_quick slot) refl)).inside
 
   -- As the code reads it.
-  pub swap_read : (words : Words) (k mark value expected desired : ℕ) (next : Target)
-      → k ≡ next_of (claims_quick slot) slot
-      → next ≡ target_standing targets k
+  pub swap_read : (words : Words) (mark value expected desired : ℕ) (next : Target)
+      → next ≡ target_standing targets (next_of (claims_quick slot) slot)
       → mark ≡ mark_of team
       → value ≡ cond (claims_quick slot) next.quoted next.new
       → expected ≡ cond (claims_quick slot) value mark
       → desired ≡ cond (claims_quick slot) mark value
       → tries next.word expected desired ≡ swap_tried words (gathered targets slot) team
-  swap_read words k mark value expected desired next k_is next_is marked chosen expects desires =
+  swap_read words mark value expected desired next next_is marked chosen expects desires =
       let claims = claims_quick slot in
       (λ i. tries next.word (expects i) (desires i))
       ∙ (λ i. tries next.word (cond claims (chosen i) (marked i)) (cond claims (marked i) (chosen i)))
-      ∙ (λ i. swap_by ((next_is ∙ ap (target_standing targets) k_is) i) team claims)
+      ∙ (λ i. swap_by (next_is i) team claims)
       ∙ swap_by_lem words claims refl
+
+  -- A put expects a mark, and a claim a value, which is none.
+  expects_mark : (claims : Bool) → claims_quick slot ≡ claims → let next = target_standing targets (next_of claims slot) in
+      cond claims (is_held next.quoted) (not (is_held next.new)) ≡ is_held (swap_by next team claims).expected
+  expects_mark true is = refl
+  expects_mark false is =
+      ap not (lt-leb (2 ^ 63) _ (target_fits_there targets slot quick.made slot.done (next_below false is)).new_value)
+      ∙ sym (le-leb (2 ^ 63) (mark_of team) (omega arith))
+
+  pub mark_expected : (words : Words) (next : Target) → next ≡ target_standing targets (next_of (claims_quick slot) slot)
+      → cond (claims_quick slot) (is_held next.quoted) (not (is_held next.new)) ≡ is_held (swap_tried words (gathered targets slot) team).expected
+  mark_expected words next next_is =
+      let claims = claims_quick slot in
+      ap (λ (one : Target). cond claims (is_held one.quoted) (not (is_held one.new))) next_is
+      ∙ expects_mark claims refl
+      ∙ ap (λ (swap : SwapTried). is_held swap.expected) (swap_by_lem words claims refl)

@@ -43,6 +43,10 @@ quick_swaps slot = quick_if slot.kind (is_plain slot) slot.n
 abbrev pub claims_quick : Slot.Ticket → Bool
 claims_quick slot = ltb slot.claimed slot.n
 
+-- The number of its next target: to claim, or to put.
+abbrev pub next_of : Bool → Slot.Ticket → ℕ
+next_of claims slot = cond claims slot.claimed slot.done
+
 -- What came of a swap that was tried.
 abbrev pub tried : Bool → ℕ → Bool → Tried
 tried claims found went = cond went (Went claims) (Missed found)

@@ -2,11 +2,11 @@
 #![tactic(auto)]
 
 ghost use Rattle.std.specs.Prelude.{◌≡◌, cond, ◌+◌, ◌*◌, ◌<◌, length, eqb};
-ghost use Rattle.words.specs.Words.{Words, words_in_book, team_count};
+ghost use Rattle.words.specs.Words.{Words, words_in_book, team_count, is_held};
 ghost use Rattle.tickets.specs.Steps.{swap_tried};
-ghost use Rattle.tickets.specs.Table.{gathered};
+ghost use Rattle.tickets.specs.Table.{target_standing, gathered};
 ghost use Rattle.replies.specs.Leaving.{RoomAt};
-ghost use Rattle.quick.specs.Quick.{Quick, is_plain, quick_swaps, quick_tried, advanced_by, AdvancesBy, told_answer, ToldAt};
+ghost use Rattle.quick.specs.Quick.{Quick, is_plain, claims_quick, next_of, quick_swaps, quick_tried, advanced_by, AdvancesBy, told_answer, ToldAt};
 
 use encoder::AnswerKind;
 use frames::Frame;
@@ -53,6 +53,17 @@ pub fn quick_swaps(ticket: Ticket) -> u16
     }
 }
 
+// The target of the next claim or put of an edit.
+fn next_target(targets: &[Target; Tickets::ROOM], ticket: Ticket) -> Target
+    requires { Quick targets.now ticket }
+    ensures next { result ≡ target_standing targets.now (next_of (claims_quick ticket) ticket) }
+    ensures inside { result.word < words_in_book }
+{
+    let claims = ticket.claimed < ticket.n;
+    let k = chosen(claims, ticket.claimed, ticket.done);
+    targets[k as usize]
+}
+
 // The next claim or put of an edit. Both values are read, so that no load hangs on a branch.
 fn swap_at(targets: &[Target; Tickets::ROOM], team: usize, ticket: Ticket) -> SwapTried
     requires { (team < team_count) × Quick targets.now ticket }
@@ -60,8 +71,7 @@ fn swap_at(targets: &[Target; Tickets::ROOM], team: usize, ticket: Ticket) -> Sw
 {
     let mark = words::mark(team as u16);
     let claims = ticket.claimed < ticket.n;
-    let k = chosen(claims, ticket.claimed, ticket.done);
-    let target = targets[k as usize];
+    let target = next_target(targets, ticket);
     let word = target.word as u16;
     let value = chosen(claims, target.quoted, target.new);
     SwapTried {
@@ -69,6 +79,22 @@ fn swap_at(targets: &[Target; Tickets::ROOM], team: usize, ticket: Ticket) -> Sw
         expected: chosen(claims, value, mark),
         desired: chosen(claims, mark, value),
     }
+}
+
+// Whether the next swap of an edit counts as done whatever it finds: a put's does, which expects a mark. No value of a target is one, and
+// both values are asked, so that they are in registers where the swap is chosen: a value that nothing but the choice needs would be
+// read behind a branch on the phase.
+fn counts_anyway(targets: &[Target; Tickets::ROOM], team: usize, ticket: Ticket) -> bool
+    requires { (team < team_count) × Quick targets.now ticket }
+    ensures { (words : Words) → result ≡ is_held (swap_tried words (gathered targets.now ticket) team).expected }
+{
+    let claims = ticket.claimed < ticket.n;
+    let target = next_target(targets, ticket);
+    chosen(
+        claims,
+        words::is_held(target.quoted),
+        !words::is_held(target.new),
+    )
 }
 
 // Tries an edit's next swap. A put counts as done whatever it found.
@@ -93,7 +119,7 @@ pub fn try_quick(
     if found == swap.expected {
         return Tried::Went(claims);
     }
-    if words::is_held(swap.expected) {
+    if counts_anyway(targets, team, ticket) {
         return Tried::Went(claims);
     }
     Tried::Missed(found)
