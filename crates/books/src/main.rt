@@ -11,8 +11,8 @@ use desk::records::{Given, Record};
 use desk::{Room, records};
 use frames::Refusal;
 use sound::Scratch;
+use std::fmt;
 use std::io::{Print, Stdout};
-use std::{fmt, io};
 
 // The buffer of which a part is lent: the bytes before that part, its bytes at most, and some behind them.
 #[derive(Drop)]
@@ -69,7 +69,7 @@ fn is_spoiled(sector: &[u8], lent: usize, filling: u8) -> bool
     before.iter().chain(behind).any(|byte| *byte != filling)
 }
 
-fn check_case(stdout: Stdout, case: Case<'_>, filling: u8) -> io::Result<()> {
+fn check_case(stdout: Stdout, case: Case<'_>, filling: u8) {
     let mut words = [0; Room::WORDS];
     desk::set_words(&mut words, case.given);
     let book = &words[..case.words.min(Room::WORDS)];
@@ -78,18 +78,20 @@ fn check_case(stdout: Stdout, case: Case<'_>, filling: u8) -> io::Result<()> {
     let scratch = &mut sector[Sector::BEFORE..Sector::BEFORE + lent];
     let answer = Answer(sound::check(book, scratch));
     if is_spoiled(&sector, lent, filling) {
-        println!(stdout; "{answer} spoiled")
+        let _ = println!(stdout; "{answer} spoiled");
     } else {
-        println!(stdout; "{answer}")
+        let _ = println!(stdout; "{answer}");
     }
 }
 
-fn main(rt: HostRuntime) -> io::Result<()> {
+fn main(rt: HostRuntime) {
     let mut buffer = [0u8; Room::INPUT];
     let mut fillings = Sector::FILLINGS;
-    desk::for_each_record(rt.stdin(), &mut buffer, |case| {
+    // No call fails, since a write that fails is passed over.
+    let _ = desk::for_each_record(rt.stdin(), &mut buffer, |case| {
         let [filling, _] = fillings;
         fillings.rotate_left(1);
-        check_case(rt.stdout(), case, filling)
-    })
+        check_case(rt.stdout(), case, filling);
+        Ok(())
+    });
 }

@@ -13,7 +13,6 @@ ghost use Rattle.std.specs.Prelude.{◌≤◌, length, IfSome};
 use desk::records::{Given, Record, Records};
 use desk::{Room, records, text};
 use frames::Refusal;
-use std::io;
 use std::io::{Print, Stdout};
 use tickets::{Ticket, Tickets};
 use words::Limits;
@@ -104,14 +103,18 @@ impl<'a> Record<'a> for Case<'a> {
     }
 }
 
-fn tell(stdout: Stdout, outcome: Result<(), Refusal>) -> io::Result<()> {
+fn tell(stdout: Stdout, outcome: Result<(), Refusal>) {
     match outcome {
-        Ok(()) => println!(stdout; "carried"),
-        Err(refusal) => println!(stdout; "{refusal}"),
+        Ok(()) => {
+            let _ = println!(stdout; "carried");
+        }
+        Err(refusal) => {
+            let _ = println!(stdout; "{refusal}");
+        }
     }
 }
 
-fn carry_case(stdout: Stdout, case: Case<'_>) -> io::Result<()> {
+fn carry_case(stdout: Stdout, case: Case<'_>) {
     let mut old = [0; Room::WORDS];
     let mut before = [case.value; Room::WORDS];
     desk::set_words(&mut old, case.old_given);
@@ -123,13 +126,15 @@ fn carry_case(stdout: Stdout, case: Case<'_>) -> io::Result<()> {
         second,
         case.tickets,
     );
-    tell(stdout, outcome)?;
-    text::tell_changes(stdout, &before, second)
+    tell(stdout, outcome);
+    text::tell_changes(stdout, &before, second);
 }
 
-fn main(rt: HostRuntime) -> io::Result<()> {
+fn main(rt: HostRuntime) {
     let mut buffer = [0u8; Room::INPUT];
-    desk::for_each_record(rt.stdin(), &mut buffer, |case| {
-        carry_case(rt.stdout(), case)
-    })
+    // No call fails, since a write that fails is passed over.
+    let _ = desk::for_each_record(rt.stdin(), &mut buffer, |case| {
+        carry_case(rt.stdout(), case);
+        Ok(())
+    });
 }

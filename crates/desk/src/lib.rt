@@ -33,12 +33,10 @@ impl Room {
     pub const NUMBERS: usize = Room::TARGET * Tickets::ROOM;
 }
 
-// Reads until the buffer is full, the input ends or a read fails: what has come. The buffer is an array, so that the length of a
-// million zeros is known by their type and is not counted.
-pub fn read_full<const N: usize>(mut stdin: Stdin, buffer: &mut [u8; N]) -> &[u8]
-    ensures { length result.now ≤ N }
+// Reads until the buffer is full, the input ends or a read fails: what has come.
+pub fn read_full(mut stdin: Stdin, buffer: &mut [u8]) -> &[u8]
+    ensures { length result.now ≤ length buffer.old }
 {
-    let buffer = &mut buffer[..];
     let mut done = 0;
     while let Ok(count @ 1..) = stdin.read(&mut buffer[done..]) {
         done += count;
@@ -46,7 +44,8 @@ pub fn read_full<const N: usize>(mut stdin: Stdin, buffer: &mut [u8; N]) -> &[u8
     &buffer[..done]
 }
 
-// Calls for each record of the input, up to a call that fails. The buffer is the caller's, since the records borrow from it.
+// Calls for each record of the input, up to a call that fails. The buffer is the caller's, since the records borrow from it, and an
+// array, so that the length of a million zeros is known by their type and is not counted.
 pub fn for_each_record<'a, R: Record<'a>, F: FnMut(R) -> io::Result<()>>(
     stdin: Stdin,
     buffer: &'a mut [u8; Room::INPUT],

@@ -1,7 +1,7 @@
-// The text of answers.
+// The text of answers. A write that fails is passed over.
+use std::fmt;
 use std::fmt::Display;
 use std::io::{Print, Stdout};
-use std::{fmt, io};
 use tickets::Target;
 
 // Numbers, each behind a space.
@@ -44,11 +44,10 @@ impl Display for Bytes<'_> {
 }
 
 // A line for each word that has changed.
-pub fn tell_changes(stdout: Stdout, before: &[u64], after: &[u64]) -> io::Result<()> {
+pub fn tell_changes(stdout: Stdout, before: &[u64], after: &[u64]) {
     for (word, (was, is)) in before.iter().zip(after).enumerate() {
         if was != is {
-            println!(stdout; "word {word} {is}")?;
+            let _ = println!(stdout; "word {word} {is}");
         }
     }
-    Ok(())
 }

@@ -18,9 +18,9 @@ use desk::records::{Call, Records, UnknownTag};
 use desk::text::{Bytes, Targets};
 use desk::{Room, text};
 use legs::{Leg, Measure, Stations};
+use std::fmt;
 use std::fmt::Display;
 use std::io::{Print, Stdout};
-use std::{fmt, io};
 use tickets::{Phase, Slot, Ticket, Tickets};
 
 enum Tag {
@@ -69,7 +69,7 @@ impl Display for Name {
 }
 
 // A ticket and its first n targets, or those that there is room for.
-fn tell_ticket(stdout: Stdout, team: usize, slot: &Slot) -> io::Result<()> {
+fn tell_ticket(stdout: Stdout, team: usize, slot: &Slot) {
     let name = Name(slot.ticket.phase());
     let Ticket {
         tries,
@@ -80,19 +80,18 @@ fn tell_ticket(stdout: Stdout, team: usize, slot: &Slot) -> io::Result<()> {
     } = slot.ticket;
     let many = Tickets::ROOM.min(n as usize);
     let targets = Targets(&slot.targets[..many]);
-    println!(stdout; "ticket {team} {name} {n} {claimed} {done} {tries} :{targets}")
+    let _ = println!(stdout; "ticket {team} {name} {n} {claimed} {done} {tries} :{targets}");
 }
 
-fn tell_tickets(stdout: Stdout, tickets: &Tickets) -> io::Result<()> {
+fn tell_tickets(stdout: Stdout, tickets: &Tickets) {
     for (team, slot) in tickets.slots.iter().enumerate() {
         if slot.ticket.stands() {
-            tell_ticket(stdout, team, slot)?;
+            tell_ticket(stdout, team, slot);
         }
     }
-    Ok(())
 }
 
-fn tell_leg(stdout: Stdout, leg: Leg) -> io::Result<()> {
+fn tell_leg(stdout: Stdout, leg: Leg) {
     let Leg {
         passage,
         stations,
@@ -104,16 +103,18 @@ fn tell_leg(stdout: Stdout, leg: Leg) -> io::Result<()> {
         compass,
         clino,
     } = measure;
-    println!(stdout; "leg {passage} {from} {to} {distance} {compass} {clino}")
+    let _ = println!(stdout; "leg {passage} {from} {to} {distance} {compass} {clino}");
 }
 
-fn read(stdout: Stdout, carried: &[u8]) -> io::Result<()> {
+fn read(stdout: Stdout, carried: &[u8]) {
     let mut numbers = Records::<u64>::of(carried);
     let (Some(place), Some(measure)) = (numbers.next(), numbers.next()) else {
-        return Ok(());
+        return;
     };
     match legs::read_leg(place, measure) {
-        None => println!(stdout; "no leg"),
+        None => {
+            let _ = println!(stdout; "no leg");
+        }
         Some(leg) => tell_leg(stdout, leg),
     }
 }
@@ -154,7 +155,7 @@ impl State {
     }
 
     // A frame on so many of the words, with an output of so many of the bytes.
-    fn answer(&mut self, stdout: Stdout, call: Call<'_>) -> io::Result<()> {
+    fn answer(&mut self, stdout: Stdout, call: Call<'_>) {
         let before = self.words;
         let tickets = self.tickets;
         let [fill, _] = call.number.to_le_bytes();
@@ -167,35 +168,38 @@ impl State {
         let reply = book::call(book, tickets, &ranks, call.carried, out);
         self.tickets = reply.tickets;
         let returned = desk::returned(reply.written);
-        println!(stdout; "returns {returned} :{}", Bytes(out))?;
-        text::tell_changes(stdout, &before, &self.words)?;
-        tell_tickets(stdout, &self.tickets)
+        let _ = println!(stdout; "returns {returned} :{}", Bytes(out));
+        text::tell_changes(stdout, &before, &self.words);
+        tell_tickets(stdout, &self.tickets);
     }
 
     // Tags are a program's own, so that each looks its own up in a match of its own.
-    fn dispatch(&mut self, stdout: Stdout, call: Call<'_>) -> io::Result<()> {
+    fn dispatch(&mut self, stdout: Stdout, call: Call<'_>) {
         let Ok(tag) = Tag::try_from(call.tag) else {
-            return Ok(());
+            return;
         };
         let number = call.number as usize;
         let carried = call.carried;
         match tag {
-            Tag::Title => stdout.write_all(carried)?,
+            Tag::Title => {
+                let _ = stdout.write_all(carried);
+            }
             Tag::Fresh => *self = State::fresh(),
             Tag::Word => self.set_word(number, carried),
             Tag::Slot => self.set_slot(number, carried),
             Tag::Target => self.set_target(number, carried),
-            Tag::Frame => self.answer(stdout, call)?,
-            Tag::Read => read(stdout, carried)?,
+            Tag::Frame => self.answer(stdout, call),
+            Tag::Read => read(stdout, carried),
         }
-        Ok(())
     }
 }
 
-fn main(rt: HostRuntime) -> io::Result<()> {
+fn main(rt: HostRuntime) {
     let mut buffer = [0u8; Room::INPUT];
     let mut state = State::fresh();
-    desk::for_each_record(rt.stdin(), &mut buffer, |call| {
-        state.dispatch(rt.stdout(), call)
-    })
+    // No call fails, since a write that fails is passed over.
+    let _ = desk::for_each_record(rt.stdin(), &mut buffer, |call| {
+        state.dispatch(rt.stdout(), call);
+        Ok(())
+    });
 }

@@ -22,9 +22,9 @@ use desk::Room;
 use desk::records::{Call, Records, UnknownTag};
 use desk::text::{Bytes, Numbers};
 use frames::Refusal;
+use std::fmt;
 use std::fmt::Display;
 use std::io::{Print, Stdout};
-use std::{fmt, io};
 use tickets::Tickets;
 use words::Limits;
 
@@ -106,9 +106,9 @@ impl Display for Digests<'_> {
 }
 
 // A call without a frame writes nothing.
-fn tell_outcome(stdout: Stdout, outcome: Result<(), Refusal>) -> io::Result<()> {
+fn tell_outcome(stdout: Stdout, outcome: Result<(), Refusal>) {
     let returned = desk::returned(outcome.map(|()| 0));
-    println!(stdout; "{returned}")
+    let _ = println!(stdout; "{returned}");
 }
 
 // Room for the ranks lent, of which the first so many are in force.
@@ -197,7 +197,7 @@ impl State {
     }
 
     // The parts that are lent are split off, since a part taken by its range isn't lent through the several fields at once.
-    fn answer(&mut self, stdout: Stdout, call: Call<'_>) -> io::Result<()> {
+    fn answer(&mut self, stdout: Stdout, call: Call<'_>) {
         let State {
             words,
             tickets,
@@ -210,7 +210,7 @@ impl State {
         let reply = book::call(book, *tickets, ranks.in_force(), call.carried, out);
         *tickets = reply.tickets;
         let returned = desk::returned(reply.written);
-        println!(stdout; "{returned}{}", Bytes(&out[..returned.min(out.len())]))
+        let _ = println!(stdout; "{returned}{}", Bytes(&out[..returned.min(out.len())]));
     }
 
     fn fill(&mut self, call: Call<'_>) -> Result<(), Refusal> {
@@ -250,38 +250,39 @@ impl State {
         outcome
     }
 
-    fn tell(&self, stdout: Stdout) -> io::Result<()> {
+    fn tell(&self, stdout: Stdout) {
         let filled = self.filled.map(u8::from);
         let ranks = self.ranks.in_force();
         let count = ranks.len();
-        println!(stdout; "book{}", Digests(&self.words))?;
-        println!(stdout; "store{}", Digests(&self.store))?;
-        println!(stdout; "filled{}", Numbers(&filled))?;
-        println!(stdout; "output{}", Bytes(&self.out))?;
-        println!(stdout; "ranks {count}{}", Numbers(ranks))
+        let _ = println!(stdout; "book{}", Digests(&self.words));
+        let _ = println!(stdout; "store{}", Digests(&self.store));
+        let _ = println!(stdout; "filled{}", Numbers(&filled));
+        let _ = println!(stdout; "output{}", Bytes(&self.out));
+        let _ = println!(stdout; "ranks {count}{}", Numbers(ranks));
     }
 
-    fn dispatch(&mut self, stdout: Stdout, call: Call<'_>) -> io::Result<()> {
+    fn dispatch(&mut self, stdout: Stdout, call: Call<'_>) {
         let Ok(tag) = Tag::try_from(call.tag) else {
-            return Ok(());
+            return;
         };
         match tag {
             Tag::Begin => self.begin(call.number),
-            Tag::Frame => self.answer(stdout, call)?,
-            Tag::Fill => tell_outcome(stdout, self.fill(call))?,
-            Tag::ComeBack => tell_outcome(stdout, self.come_back(call))?,
-            Tag::Tell => self.tell(stdout)?,
-            Tag::Load => tell_outcome(stdout, self.load(call))?,
+            Tag::Frame => self.answer(stdout, call),
+            Tag::Fill => tell_outcome(stdout, self.fill(call)),
+            Tag::ComeBack => tell_outcome(stdout, self.come_back(call)),
+            Tag::Tell => self.tell(stdout),
+            Tag::Load => tell_outcome(stdout, self.load(call)),
             Tag::Lend => self.ranks = self.ranks.with_carried(call),
         }
-        Ok(())
     }
 }
 
-fn main(rt: HostRuntime) -> io::Result<()> {
+fn main(rt: HostRuntime) {
     let mut buffer = [0u8; Room::INPUT];
     let mut state = State::new();
-    desk::for_each_record(rt.stdin(), &mut buffer, |call| {
-        state.dispatch(rt.stdout(), call)
-    })
+    // No call fails, since a write that fails is passed over.
+    let _ = desk::for_each_record(rt.stdin(), &mut buffer, |call| {
+        state.dispatch(rt.stdout(), call);
+        Ok(())
+    });
 }

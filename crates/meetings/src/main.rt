@@ -14,7 +14,6 @@ use desk::Room;
 use desk::records::{Call, UnknownTag};
 use desk::text::Numbers;
 use frames::Refusal;
-use std::io;
 use std::io::{Print, Stdout};
 
 enum Tag {
@@ -49,16 +48,16 @@ impl Output {
 }
 
 // Tells the words written, or the refusal; what comes back is the words that have to be as they were.
-fn tell_met(stdout: Stdout, met: Result<usize, Refusal>, space: &[u64]) -> io::Result<&[u64]> {
+fn tell_met(stdout: Stdout, met: Result<usize, Refusal>, space: &[u64]) -> &[u64] {
     match met {
         Ok(written) => {
             let (list, others) = space.split_at(written.min(space.len()));
-            print!(stdout; "written {written}{}", Numbers(list))?;
-            Ok(others)
+            let _ = print!(stdout; "written {written}{}", Numbers(list));
+            others
         }
         Err(refusal) => {
-            print!(stdout; "{refusal}")?;
-            Ok(space)
+            let _ = print!(stdout; "{refusal}");
+            space
         }
     }
 }
@@ -71,23 +70,23 @@ struct State {
 }
 
 impl State {
-    fn list_station(&mut self, stdout: Stdout, call: Call<'_>) -> io::Result<()> {
+    fn list_station(&mut self, stdout: Stdout, call: Call<'_>) {
         let State { words, space } = self;
         space.fill(Output::FORMER);
         let book = &words[..call.book.min(Room::WORDS)];
         let out = &mut space[..call.beside.min(Output::WORDS)];
         let met = meet::meet(book, call.number, out);
-        let others = tell_met(stdout, met, &space[..])?;
+        let others = tell_met(stdout, met, &space[..]);
         if others.iter().all(|word| *word == Output::FORMER) {
-            println!(stdout)
+            let _ = println!(stdout);
         } else {
-            println!(stdout; " spoiled")
+            let _ = println!(stdout; " spoiled");
         }
     }
 
-    fn dispatch(&mut self, stdout: Stdout, call: Call<'_>) -> io::Result<()> {
+    fn dispatch(&mut self, stdout: Stdout, call: Call<'_>) {
         let Ok(tag) = Tag::try_from(call.tag) else {
-            return Ok(());
+            return;
         };
         match tag {
             Tag::Begin => {
@@ -95,19 +94,20 @@ impl State {
                 desk::set_words(&mut self.words, call.carried);
             }
             Tag::Change => desk::set_words(&mut self.words, call.carried),
-            Tag::Meet => self.list_station(stdout, call)?,
+            Tag::Meet => self.list_station(stdout, call),
         }
-        Ok(())
     }
 }
 
-fn main(rt: HostRuntime) -> io::Result<()> {
+fn main(rt: HostRuntime) {
     let mut buffer = [0u8; Room::INPUT];
     let mut state = State {
         words: [0; Room::WORDS],
         space: [0; Output::WORDS],
     };
-    desk::for_each_record(rt.stdin(), &mut buffer, |call| {
-        state.dispatch(rt.stdout(), call)
-    })
+    // No call fails, since a write that fails is passed over.
+    let _ = desk::for_each_record(rt.stdin(), &mut buffer, |call| {
+        state.dispatch(rt.stdout(), call);
+        Ok(())
+    });
 }

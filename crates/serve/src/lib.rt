@@ -1,7 +1,7 @@
 // What survey does between a read and a write.
 #![tactic(auto)]
 
-ghost use Rattle.std.specs.Prelude.{◌≡◌, ◌+◌, ◌-◌, ◌<◌, ◌≤◌, length, take, IfSome};
+ghost use Rattle.std.specs.Prelude.{◌≡◌, ◌+◌, ◌-◌, ◌<◌, ◌≤◌, length, take, IfSome, unwrap_or};
 ghost use Rattle.tickets.specs.Table.{table_of};
 ghost use Rattle.frames.specs.Answers.{longest_answer};
 ghost use Rattle.frames.specs.Fields.{longest_frame};
@@ -79,9 +79,10 @@ impl Server<'_, '_> {
     }
 
     // All whole frames among the bytes that are kept answered, and what is left of them moved to the front; or Refused 3 behind
-    // the answers.
+    // the answers, and no byte is kept.
     fn serve_front(&mut self) -> ControlFlow<usize, usize>
         ensures bounds { IfSome (served_of self.new result).have (λ kept. kept < longest_frame) × ((served_of self.new result).written ≤ length self.old.out.now) }
+        ensures kept { self.new.input.have ≡ unwrap_or (served_of self.new result).have 0 }
         ensures all { (served_of self.new result, self.new.book.now, self.new.input.buffer.now, self.new.out.now) ≡ served_after self.old.input.buffer.now self.old.input.have (stream_of self.old.book.now (table_of self.old.tickets) self.old.ranks.now (take self.old.input.have self.old.input.buffer.now) self.old.out.now) }
         ensures same_loans { SameLoans self.old self.new }
     {
@@ -94,6 +95,7 @@ impl Server<'_, '_> {
         let answered = input.stream(book, tickets, ranks, out);
         self.tickets = answered.tickets;
         if !goes_on(answered.stop) {
+            input.have = 0;
             let refused = replies::put(
                 self.out,
                 answered.written,
@@ -106,16 +108,18 @@ impl Server<'_, '_> {
     }
 
     // All that is done after a read of `got` bytes behind those kept, none at the end of the input: how many bytes to write from
-    // the front of the output, and if the program goes on.
+    // the front of the output, and if the program goes on. Where it doesn't, no byte is kept: a turn after it refuses none again.
     // No plainer as an `Option`: `Read` itself tells the end by 0, and `served_by` takes the number.
     pub fn after_read(&mut self, got: usize) -> ControlFlow<usize, usize>
         requires { self.old.input.have + got ≤ length self.old.input.buffer.now }
         ensures bounds { IfSome (served_of self.new result).have (λ kept. kept < longest_frame) × ((served_of self.new result).written ≤ length self.old.out.now) }
+        ensures kept { self.new.input.have ≡ unwrap_or (served_of self.new result).have 0 }
         ensures all { (served_of self.new result, self.new.book.now, self.new.input.buffer.now, self.new.out.now) ≡ served_by self.old.book.now (table_of self.old.tickets) self.old.ranks.now self.old.input.buffer.now self.old.input.have got self.old.out.now }
         ensures same_loans { SameLoans self.old self.new }
     {
         if got == 0 {
             let have = self.input.have;
+            self.input.have = 0;
             let count = Server::at_end(self.out, have);
             return ControlFlow::Break(count);
         }

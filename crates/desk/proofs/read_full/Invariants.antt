@@ -3,7 +3,7 @@ use lib.ListN.{length}
 use Rattle.desk.proofs.read_full.Given as goal
 
 abbrev pub invariant-loop-count : goal.invariant-loop-count
-invariant-loop-count g l = l.done ≤ length l.buffer
+invariant-loop-count l = l.done ≤ length l.buffer
 
 abbrev pub decreases-loop-count : goal.decreases-loop-count
-decreases-loop-count g l = length l.buffer - l.done
+decreases-loop-count l = length l.buffer - l.done
