@@ -66,32 +66,48 @@ fn is_spoiled(sector: &[u8], lent: usize, filling: u8) -> bool
 {
     let (before, rest) = sector.split_at(Sector::BEFORE);
     let behind = &rest[lent.min(Scratch::BYTES)..];
-    before.iter().chain(behind).any(|byte| *byte != filling)
+    before.iter().any(|byte| *byte != filling) || behind.iter().any(|byte| *byte != filling)
 }
 
-fn check_case(stdout: Stdout, case: Case<'_>, filling: u8) {
-    let mut words = [0; Room::WORDS];
-    desk::set_words(&mut words, case.given);
-    let book = &words[..case.words.min(Room::WORDS)];
-    let lent = case.lent.min(Sector::MOST_LENT);
-    let mut sector = [filling; Sector::BYTES];
-    let scratch = &mut sector[Sector::BEFORE..Sector::BEFORE + lent];
-    let answer = Answer(sound::check(book, scratch));
-    if is_spoiled(&sector, lent, filling) {
-        let _ = println!(stdout; "{answer} spoiled");
-    } else {
-        let _ = println!(stdout; "{answer}");
+// The words of the book, and the buffer of which the scratch is a part. Both are kept from case to case, since of a short book only the
+// words that are lent are made anew. The parts that are lent are split off: one taken by its range isn't lent through several fields.
+#[derive(Drop)]
+struct State {
+    words: [u64; Room::WORDS],
+    sector: [u8; Sector::BYTES],
+}
+
+impl State {
+    fn check(&mut self, stdout: Stdout, case: Case<'_>, filling: u8) {
+        let State { words, sector } = self;
+        let (book, _) = words.split_at_mut(case.words.min(Room::WORDS));
+        book.fill(0);
+        desk::set_words(book, case.given);
+        let lent = case.lent.min(Sector::MOST_LENT);
+        sector.fill(filling);
+        let (_, rest) = sector.split_at_mut(Sector::BEFORE);
+        let (scratch, _) = rest.split_at_mut(lent);
+        let answer = Answer(sound::check(book, scratch));
+        if is_spoiled(&sector[..], lent, filling) {
+            let _ = println!(stdout; "{answer} spoiled");
+        } else {
+            let _ = println!(stdout; "{answer}");
+        }
     }
 }
 
 fn main(rt: HostRuntime) {
     let mut buffer = [0u8; Room::INPUT];
+    let mut state = State {
+        words: [0; Room::WORDS],
+        sector: [0; Sector::BYTES],
+    };
     let mut fillings = Sector::FILLINGS;
     // No call fails, since a write that fails is passed over.
     let _ = desk::for_each_record(rt.stdin(), &mut buffer, |case| {
         let [filling, _] = fillings;
         fillings.rotate_left(1);
-        check_case(rt.stdout(), case, filling);
+        state.check(rt.stdout(), case, filling);
         Ok(())
     });
 }

@@ -114,27 +114,47 @@ fn tell(stdout: Stdout, outcome: Result<(), Refusal>) {
     }
 }
 
-fn carry_case(stdout: Stdout, case: Case<'_>) {
-    let mut old = [0; Room::WORDS];
-    let mut before = [case.value; Room::WORDS];
-    desk::set_words(&mut old, case.old_given);
-    desk::set_words(&mut before, case.second_given);
-    let mut after = before;
-    let second = &mut after[..case.second_words.min(Room::WORDS)];
-    let outcome = carry::carry_over(
-        &old[..case.old_words.min(Room::WORDS)],
-        second,
-        case.tickets,
-    );
-    tell(stdout, outcome);
-    text::tell_changes(stdout, &before, second);
+// The words of the old book, of the second as it was, and of the second. They are kept from case to case, since of short books only the
+// words that are lent are made anew. The parts that are lent are split off: one taken by its range isn't lent through several fields.
+#[derive(Drop)]
+struct Books {
+    old: [u64; Room::WORDS],
+    before: [u64; Room::WORDS],
+    second: [u64; Room::WORDS],
+}
+
+impl Books {
+    fn carry(&mut self, stdout: Stdout, case: Case<'_>) {
+        let Books {
+            old,
+            before,
+            second,
+        } = self;
+        let (old, _) = old.split_at_mut(case.old_words.min(Room::WORDS));
+        old.fill(0);
+        desk::set_words(old, case.old_given);
+        let many = case.second_words.min(Room::WORDS);
+        let (before, _) = before.split_at_mut(many);
+        before.fill(case.value);
+        desk::set_words(before, case.second_given);
+        let (second, _) = second.split_at_mut(many);
+        second.copy_from_slice(before);
+        let outcome = carry::carry_over(old, second, case.tickets);
+        tell(stdout, outcome);
+        text::tell_changes(stdout, before, second);
+    }
 }
 
 fn main(rt: HostRuntime) {
     let mut buffer = [0u8; Room::INPUT];
+    let mut books = Books {
+        old: [0; Room::WORDS],
+        before: [0; Room::WORDS],
+        second: [0; Room::WORDS],
+    };
     // No call fails, since a write that fails is passed over.
     let _ = desk::for_each_record(rt.stdin(), &mut buffer, |case| {
-        carry_case(rt.stdout(), case);
+        books.carry(rt.stdout(), case);
         Ok(())
     });
 }
