@@ -119,7 +119,8 @@ pub enum Kind {
 }
 
 impl Kind {
-    // The papers' numbers, by which a frame says its kind.
+    // The papers' numbers, by which a frame says its kind: constants beside the variants, since who makes a frame needs them, and so does the
+    // number that a step's frame begins with.
     pub const ADD: u16 = 1;
 
     pub const CORRECT: u16 = 2;

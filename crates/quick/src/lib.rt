@@ -85,7 +85,7 @@ fn swap_at(targets: &[Target; Tickets::ROOM], team: usize, ticket: Ticket) -> Sw
 // both values are asked, so that they are in registers where the swap is chosen: a value that nothing but the choice needs would be
 // read behind a branch on the phase.
 fn counts_anyway(targets: &[Target; Tickets::ROOM], team: usize, ticket: Ticket) -> bool
-    requires { (team < team_count) × Quick targets.now ticket }
+    requires { Quick targets.now ticket }
     ensures { (words : Words) → result ≡ is_held (swap_tried words (gathered targets.now ticket) team).expected }
 {
     let claims = ticket.claimed < ticket.n;
