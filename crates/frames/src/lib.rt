@@ -119,8 +119,8 @@ pub enum Kind {
 }
 
 impl Kind {
-    // The papers' numbers, by which a frame says its kind: constants beside the variants, since who makes a frame needs them, and so does the
-    // number that a step's frame begins with.
+    // By these numbers, the papers', a frame says its kind. They are constants beside the variants, since who makes a frame needs them, and the
+    // number that a step's frame begins with is made of one.
     pub const ADD: u16 = 1;
 
     pub const CORRECT: u16 = 2;
