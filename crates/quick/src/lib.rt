@@ -1,7 +1,7 @@
 // The fast way of an edit: its claims and puts that go through, with no branch on the phase.
 #![tactic(auto)]
 
-ghost use Rattle.std.specs.Prelude.{◌≡◌, cond, ◌+◌, ◌*◌, ◌<◌, length, eqb};
+ghost use Rattle.std.specs.Prelude.{◌≡◌, ℕ, cond, ◌+◌, ◌*◌, ◌<◌, length, eqb};
 ghost use Rattle.words.specs.Words.{Words, words_in_book, team_count, is_held};
 ghost use Rattle.tickets.specs.Steps.{swap_tried};
 ghost use Rattle.tickets.specs.Table.{target_standing, gathered};
@@ -64,7 +64,7 @@ fn next_target(targets: &[Target; Tickets::ROOM], ticket: Ticket) -> Target
     targets[k as usize]
 }
 
-// The next claim or put of an edit. Both values are read, so that no load hangs on a branch.
+// The next claim or put of an edit. Both values are read, so that no load hangs on a branch (`counts_anyway`).
 fn swap_at(targets: &[Target; Tickets::ROOM], team: usize, ticket: Ticket) -> SwapTried
     requires { (team < team_count) × Quick targets.now ticket }
     ensures { ((words : Words) → result ≡ swap_tried words (gathered targets.now ticket) team) × (result.word < words_in_book) }
@@ -84,9 +84,9 @@ fn swap_at(targets: &[Target; Tickets::ROOM], team: usize, ticket: Ticket) -> Sw
 // Whether the next swap of an edit counts as done whatever it finds: a put's does, which expects a mark. No value of a target is one, and
 // both values are asked, so that they are in registers where the swap is chosen: a value that nothing but the choice needs would be
 // read behind a branch on the phase.
-fn counts_anyway(targets: &[Target; Tickets::ROOM], team: usize, ticket: Ticket) -> bool
+fn counts_anyway(targets: &[Target; Tickets::ROOM], ticket: Ticket) -> bool
     requires { Quick targets.now ticket }
-    ensures { (words : Words) → result ≡ is_held (swap_tried words (gathered targets.now ticket) team).expected }
+    ensures { (words : Words) (team : ℕ) → result ≡ is_held (swap_tried words (gathered targets.now ticket) team).expected }
 {
     let claims = ticket.claimed < ticket.n;
     let target = next_target(targets, ticket);
@@ -119,7 +119,7 @@ pub fn try_quick(
     if found == swap.expected {
         return Tried::Went(claims);
     }
-    if counts_anyway(targets, team, ticket) {
+    if counts_anyway(targets, ticket) {
         return Tried::Went(claims);
     }
     Tried::Missed(found)

@@ -8,6 +8,6 @@ use Rattle.quick.proofs.counts_anyway.Goals as goal
 pub returns : goal.returns
 returns c =
     let target = c.next_target-target in
-    λ words. c.chosen.ensures
+    λ words team. c.chosen.ensures
     ∙ (λ i. cond (claims_quick c.args.ticket) (c.is_held.ensures i) (not (c.is_held-2.ensures i)))
-    ∙ mark_expected c.args.targets.now c.args.team c.args.ticket c.requires words target.result target.ensures.next
+    ∙ mark_expected c.args.targets.now team c.args.ticket c.requires words target.result target.ensures.next

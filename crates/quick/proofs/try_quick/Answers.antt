@@ -31,7 +31,7 @@ returns-then-counts_anyway c =
     let args = c.args in
     let words = args.book.now in
     tried_by words args.targets.now args.team args.ticket args.quick swap.result c.conditional_swap-report.result.found c.conditional_swap-report.new.book _
-    (omega (arith, few)) (swap.ensures.0 words) c.conditional_swap-report.ensures.found c.conditional_swap-report.ensures.words (sym c.if-counts_anyway.true ∙ c.counts_anyway.ensures words ∙ ap (λ (tried : SwapTried). is_held tried.expected) (sym (swap.ensures.0 words)) ∙ went_other _ _ c.if-found-swap.false)
+    (omega (arith, few)) (swap.ensures.0 words) c.conditional_swap-report.ensures.found c.conditional_swap-report.ensures.words (sym c.if-counts_anyway.true ∙ c.counts_anyway.ensures words args.team ∙ ap (λ (tried : SwapTried). is_held tried.expected) (sym (swap.ensures.0 words)) ∙ went_other _ _ c.if-found-swap.false)
 
 pub returns : goal.returns
 returns c =
@@ -40,4 +40,4 @@ returns c =
     let args = c.args in
     let words = args.book.now in
     tried_by words args.targets.now args.team args.ticket args.quick swap.result c.conditional_swap-report.result.found c.conditional_swap-report.new.book _
-    (omega (arith, few)) (swap.ensures.0 words) c.conditional_swap-report.ensures.found c.conditional_swap-report.ensures.words (sym c.if-counts_anyway.false ∙ c.counts_anyway.ensures words ∙ ap (λ (tried : SwapTried). is_held tried.expected) (sym (swap.ensures.0 words)) ∙ went_other _ _ c.if-found-swap.false)
+    (omega (arith, few)) (swap.ensures.0 words) c.conditional_swap-report.ensures.found c.conditional_swap-report.ensures.words (sym c.if-counts_anyway.false ∙ c.counts_anyway.ensures words args.team ∙ ap (λ (tried : SwapTried). is_held tried.expected) (sym (swap.ensures.0 words)) ∙ went_other _ _ c.if-found-swap.false)
