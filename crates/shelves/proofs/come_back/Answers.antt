@@ -30,14 +30,14 @@ pub returns-then-never_filled : goal.returns-then-never_filled
 returns-then-never_filled c =
     back_refused _ _ _ _ _ 20 (back_last _ _ _ c.args.shelf c.args.filled.now true (sym c.never_filled.ensures ∙ c.if-never_filled.true) c.in_ok-checked.ensures)
 
-pub shelf_at-at-requires : goal.shelf_at-at-requires
-shelf_at-at-requires c = known (goal.at.shelf_at-at-requires c).Else-never_filled
+pub shelf_at-from-requires : goal.shelf_at-from-requires
+shelf_at-from-requires c = omega (arith, known (goal.at.shelf_at-from-requires c).Else-never_filled)
 
-pub overflow_add-at : goal.overflow_add-at
-overflow_add-at c = omega (arith, known (goal.at.overflow_add-at c).Else-never_filled, c.shelf_at-at.ensures)
+pub overflow_add-from : goal.overflow_add-from
+overflow_add-from c = omega (arith, known (goal.at.overflow_add-from c).Else-never_filled, c.shelf_at-from.ensures)
 
-pub offset_bounds-store-at : goal.offset_bounds-store-at
-offset_bounds-store-at c = omega (arith, known (goal.at.offset_bounds-store-at c).Else-never_filled, c.shelf_at-at.ensures)
+pub offset_bounds-store-from : goal.offset_bounds-store-from
+offset_bounds-store-from c = omega (arith, known (goal.at.offset_bounds-store-from c).Else-never_filled, c.shelf_at-from.ensures)
 
 pub slice_bounds-copy_from_slice-end : goal.slice_bounds-copy_from_slice-end
 slice_bounds-copy_from_slice-end c =
@@ -49,10 +49,10 @@ slice_bounds-copy_from_slice-end c =
 pub returns : goal.returns
 returns c =
     let store = c.args.store.now in
-    let at : ℕ = c.shelf_at-at.result in
-    let size : at + words_in_book - at ≡ words_in_book = omega arith in
+    let from : ℕ = c.shelf_at-from.result in
+    let size : from + words_in_book - from ≡ words_in_book = omega arith in
     let kept : c.copy_from_slice.new.self ≡ shelf_of store c.args.shelf =
     c.copy_from_slice.ensures.after
-    ∙ ap (λ (k : ℕ). take k (drop at store)) size
-    ∙ ap (λ (at : ℕ). take words_in_book (drop at store)) c.shelf_at-at.ensures in
+    ∙ ap (λ (k : ℕ). take k (drop from store)) size
+    ∙ ap (λ (at : ℕ). take words_in_book (drop at store)) c.shelf_at-from.ensures in
     (λ i. (Ok tt, kept i)) ∙ back_done _ _ _ _ _ (back_last _ _ _ c.args.shelf c.args.filled.now false (sym c.never_filled.ensures ∙ c.if-never_filled.false) c.in_ok-checked.ensures)
