@@ -169,15 +169,8 @@ fn answer_frames(
                     filled = quick::put_told(out, filled, claims, after);
                     continue;
                 }
-                let left = other_step(
-                    book,
-                    &mut slot.targets,
-                    ticket,
-                    team,
-                    tried,
-                    known,
-                    &mut out[filled..],
-                );
+                let room = &mut out[filled..];
+                let left = other_step(book, &mut slot.targets, ticket, team, tried, known, room);
                 slot.ticket = left.ticket;
                 quick[team] = quick_of(left.ticket, known);
                 filled += left.written;
@@ -188,15 +181,9 @@ fn answer_frames(
                 let aim = dispatch::aim_of(frame);
                 let team = dispatch::slot_of(aim);
                 let slot = &mut tickets.slots[team];
-                let left = other_frame(
-                    book,
-                    &mut slot.targets,
-                    ranks,
-                    slot.ticket,
-                    frame,
-                    aim,
-                    &mut out[filled..],
-                );
+                let ticket = slot.ticket;
+                let room = &mut out[filled..];
+                let left = other_frame(book, &mut slot.targets, ranks, ticket, frame, aim, room);
                 filled += left.written;
                 if let Some(after) = left.ticket {
                     slot.ticket = after;

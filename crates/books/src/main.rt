@@ -60,7 +60,8 @@ impl fmt::Display for Answer {
     }
 }
 
-// Whether a byte changed before the part lent, or behind those of its first bytes that the check may write.
+// Whether a byte changed before the part lent, or behind those of its first bytes that the check may write. Each part is gone over by
+// itself: a chain of both asks at each byte which part it is in.
 fn is_spoiled(sector: &[u8], lent: usize, filling: u8) -> bool
     requires { 64 + lent ≤ length sector.now }
 {

@@ -119,7 +119,7 @@ pub enum Kind {
 }
 
 impl Kind {
-    // By these numbers, the papers', a frame says its kind. They are constants beside the variants, since who makes a frame needs them, and the
+    // A frame says its kind by these numbers of the papers. They are constants beside the variants, since who makes a frame needs them, and the
     // number that a step's frame begins with is made of one.
     pub const ADD: u16 = 1;
 

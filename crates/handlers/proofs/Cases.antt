@@ -37,7 +37,9 @@ use Rattle.calls.specs.Way.{Aim}
 use Rattle.calls.specs.Way.{Settled, AimKnown, settled_with, look_answer, open_settled, view_settled, step_settled, new_settled, EditFields, team_settled, look_settled, settled_by}
 use Rattle.replies.specs.Leaving.{LeftBy}
 use Rattle.handlers.specs.declared.Opened.{Opened}
-use Rattle.handlers.specs.Settling.{step_by, open_by, NoStep, SettledAs, slot_asked, answer_asked, AskedAs, OpenedBy, OpenedAs}
+use Rattle.quick.specs.declared.Tried.{Tried}
+use Rattle.quick.specs.declared.Tried.TheVariants.{Missed}
+use Rattle.handlers.specs.Settling.{step_by, open_by, NoStep, SettledAs, StepLeft, slot_asked, answer_asked, AskedAs, OpenedBy, OpenedAs}
 
 -- A step of a team.
 pub step_by_lem : (words : Words) (ticket : Ticket) (ranks : Ranks) (frame : Bytes) (team : ℕ) → settled_by words ticket ranks frame (Ok (Aim.Team step_kind team)) ≡ step_by words ticket team
@@ -213,6 +215,13 @@ pub step_left : (words : Words) (targets targets_after : List Target) (team : �
 step_left words targets targets_after team slot left after out count output stands made by =
     subst (λ (r : Settled × Words). SettledAs r targets_after left after out count output) (steps_made words (gathered targets slot) team stands made)
     record { ticket_left = by.ticket_left; words_left = by.words_left; answered = by.answered }
+
+-- A step that is no claim's miss leaves what it settles.
+pub no_miss : {before : Words} {targets_before : List Target} {team : ℕ} {slot : Slot.Ticket} {tried : Tried} {left : Slot.Ticket} {after : Words} {targets : List Target} {out : Bytes} {count : ℕ} {output : Bytes}
+    → ((found : ℕ) → tried ≡ Missed found → ⊥)
+    → SettledAs (step_by before (gathered targets_before slot) team) targets left after out count output
+    → StepLeft before targets_before team slot tried left after targets out count output
+no_miss none settled = record { missed = λ found missed. absurd (none found missed); made = λ other. settled }
 
 -- What a frame leaves, by the aim that it was found to have.
 pub aimed_so : (words : Words) (ticket : Ticket) (ranks : Ranks) (frame : Bytes) (slot : Slot.Ticket) {first second : Result Aim ℕ} {after : List Target} {opened : Opened} {out output : Bytes} → first ≡ second

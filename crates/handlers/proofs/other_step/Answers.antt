@@ -5,7 +5,7 @@ use mathlib.Core.Bool.{true, false}
 use Rattle.tickets.specs.Table.{gathered}
 use Rattle.claiming.specs.Missing.{MissLeft}
 use Rattle.quick.proofs.Trying.{missed_word}
-use Rattle.handlers.proofs.Cases.{stands_has, stands_not, passes_made, steps_none, steps_badly, step_refused, step_left}
+use Rattle.handlers.proofs.Cases.{stands_has, stands_not, passes_made, steps_none, steps_badly, step_refused, step_left, no_miss}
 use Rattle.handlers.proofs.other_step.Goals as goal
 
 pub missed-requires : goal.missed-requires
@@ -23,19 +23,18 @@ pub returns-then-not-stands : goal.returns-then-not-stands
 returns-then-not-stands c =
     let targets = c.args.targets.now in
     let book = c.args.book.now in
-    record {
-      missed = λ found missed. absurd (c.in_default.not-Missed found missed);
-      made = λ none. step_refused book targets c.args.team c.args.ticket _ 9 _ _ _ c.refuse.ensures.0 (steps_none book (gathered targets c.args.ticket) c.args.team (stands_not targets c.args.ticket (sym c.stands.ensures ∙ c.if-not-stands.true))) c.refuse.ensures.1;
-    }
+    let none = steps_none book (gathered targets c.args.ticket) c.args.team (stands_not targets c.args.ticket (sym c.stands.ensures ∙ c.if-not-stands.true)) in
+    no_miss c.in_default.not-Missed (step_refused book targets c.args.team c.args.ticket _ 9 _ _ _ c.refuse.ensures.0 none c.refuse.ensures.1)
 
 pub returns-then-not-known_well_made : goal.returns-then-not-known_well_made
 returns-then-not-known_well_made c =
     let targets = c.args.targets.now in
     let book = c.args.book.now in
-    record {
-      missed = λ found missed. absurd (c.in_default.not-Missed found missed);
-      made = λ none. step_refused book targets c.args.team c.args.ticket _ 7 _ _ _ c.refuse-then-not-known_well_made.ensures.0 (let stands = sym c.stands.ensures ∙ c.if-not-stands.false in steps_badly book (gathered targets c.args.ticket) c.args.team (stands_has targets c.args.ticket stands) (passes_made targets c.args.ticket false stands (sym c.known_well_made.ensures ∙ c.if-not-known_well_made.true))) c.refuse-then-not-known_well_made.ensures.1;
-    }
+    let stands = sym c.stands.ensures ∙ c.if-not-stands.false in
+    let made = passes_made targets c.args.ticket false stands (sym c.known_well_made.ensures ∙ c.if-not-known_well_made.true) in
+    let refused = c.refuse-then-not-known_well_made.ensures in
+    let badly = steps_badly book (gathered targets c.args.ticket) c.args.team (stands_has targets c.args.ticket stands) made in
+    no_miss c.in_default.not-Missed (step_refused book targets c.args.team c.args.ticket _ 7 _ _ _ refused.0 badly refused.1)
 
 pub step-requires : goal.step-requires
 step-requires c =
@@ -50,10 +49,6 @@ step-requires c =
 pub returns : goal.returns
 returns c =
     let targets = c.args.targets.now in
-    let book = c.args.book.now in
     let stands = sym c.stands.ensures ∙ c.if-not-stands.false in
     let made = passes_made targets c.args.ticket true stands (sym c.known_well_made.ensures ∙ c.if-not-known_well_made.false) in
-    record {
-      missed = λ found missed. absurd (c.in_default.not-Missed found missed);
-      made = λ none. step_left book targets _ c.args.team c.args.ticket _ _ _ _ _ (stands_has targets c.args.ticket stands) made c.step.ensures;
-    }
+    no_miss c.in_default.not-Missed (step_left c.args.book.now targets _ c.args.team c.args.ticket _ _ _ _ _ (stands_has targets c.args.ticket stands) made c.step.ensures)
