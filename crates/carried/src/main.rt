@@ -141,7 +141,7 @@ impl Books {
         second.copy_from_slice(before);
         let outcome = carry::carry_over(old, second, case.tickets);
         tell(stdout, outcome);
-        text::tell_changes(stdout, before, second);
+        text::tell_every_change(stdout, before, second);
     }
 }
 
@@ -157,4 +157,18 @@ fn main(rt: HostRuntime) {
         books.carry(rt.stdout(), case);
         Ok(())
     });
+}
+
+#[cfg(test)]
+mod tests {
+    use super::*;
+    use std::io;
+
+    // Both calls succeed where standard output takes what is written, which no clause says of the first.
+    #[test]
+    fn tells_changes(rt: HostRuntime) -> io::Result<()> {
+        let before = [3, 7, 9];
+        text::tell_changes(rt.stdout(), &before, &[3, 8, 0])?;
+        text::tell_changes(rt.stdout(), &before, &before)
+    }
 }

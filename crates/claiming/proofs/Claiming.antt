@@ -20,7 +20,7 @@ use Rattle.replies.proofs.Standing.{phase_tells, is_standing, target_read}
 use Rattle.replies.proofs.Stepping.{step_made, step_left}
 use Rattle.claiming.specs.Missing.{missed_by, MissesIn, MissLeft}
 
-module _ (words : Words) (targets : List Target) (team : ℕ) (slot : Slot.Ticket) (out : Bytes) (known : StepsFrom Claiming targets team slot out) where
+module _ (words : Words) (targets : List Target) (team : ℕ) (slot : Slot.Ticket) (out : Bytes) (known : StepsFrom Claiming targets team slot) where
   -- The next target is the first not claimed.
   pub next_unclaimed : slot.claimed < slot.n
   next_unclaimed = (phase_tells slot Claiming known.phase_known).1.1

@@ -6,7 +6,7 @@ ghost use Rattle.tickets.specs.declared.Phase.TheVariants.{Claiming};
 ghost use Rattle.tickets.specs.Steps.{step_of};
 ghost use Rattle.tickets.specs.Table.{gathered};
 ghost use Rattle.frames.specs.Answers.{longest_answer};
-ghost use Rattle.replies.specs.Leaving.{Answered, StepsFrom, LeftBy};
+ghost use Rattle.replies.specs.Leaving.{Answered, StepsFromWithRoom, LeftBy};
 ghost use Rattle.claiming.specs.Missing.{differed_slot, differed_answer, MissesIn, MissLeft};
 
 use replies::Left;
@@ -48,7 +48,7 @@ pub fn claim(
     team: usize,
     out: &mut [u8],
 ) -> Left
-    requires { StepsFrom Claiming targets.now team ticket out.old }
+    requires { StepsFromWithRoom Claiming targets.now team ticket out.old }
     ensures { LeftBy (step_of book.old (gathered targets.now ticket) team) targets.now result.ticket book.new out.old result.written out.new }
 {
     let target = replies::target_at(targets, ticket.claimed);

@@ -1,7 +1,9 @@
-// The text of answers. A write that fails is passed over.
-use std::fmt;
+// The text of answers.
+ghost use Rattle.std.specs.Prelude.{◌≡◌, IsOk};
+
 use std::fmt::Display;
 use std::io::{Print, Stdout};
+use std::{fmt, io};
 use tickets::Target;
 
 // Numbers, each behind a space.
@@ -43,8 +45,20 @@ impl Display for Bytes<'_> {
     }
 }
 
-// A line for each word that has changed.
-pub fn tell_changes(stdout: Stdout, before: &[u64], after: &[u64]) {
+// A line for each word that has changed, up to a write that fails.
+pub fn tell_changes(stdout: Stdout, before: &[u64], after: &[u64]) -> io::Result<()>
+    ensures { before.now ≡ after.now → IsOk result }
+{
+    for (word, (was, is)) in before.iter().zip(after).enumerate() {
+        if was != is {
+            println!(stdout; "word {word} {is}")?;
+        }
+    }
+    Ok(())
+}
+
+// A line for each word that has changed. A write that fails is passed over, and those behind it are made.
+pub fn tell_every_change(stdout: Stdout, before: &[u64], after: &[u64]) {
     for (word, (was, is)) in before.iter().zip(after).enumerate() {
         if was != is {
             let _ = println!(stdout; "word {word} {is}");

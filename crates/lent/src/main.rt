@@ -169,7 +169,7 @@ impl State {
         self.tickets = reply.tickets;
         let returned = desk::returned(reply.written);
         let _ = println!(stdout; "returns {returned} :{}", Bytes(out));
-        text::tell_changes(stdout, &before, &self.words);
+        text::tell_every_change(stdout, &before, &self.words);
         tell_tickets(stdout, &self.tickets);
     }
 

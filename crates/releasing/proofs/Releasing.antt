@@ -21,7 +21,7 @@ use Rattle.replies.specs.Leaving.{Answered, StepsFrom, LeftBy}
 use Rattle.replies.proofs.Standing.{phase_tells, given_more, given_last, is_standing, target_read, counts_there}
 use Rattle.replies.proofs.Stepping.{step_left}
 
-module _ (words : Words) (targets : List Target) (team : ℕ) (slot : Slot.Ticket) (out : Bytes) (known : StepsFrom Putting targets team slot out) where
+module _ (words : Words) (targets : List Target) (team : ℕ) (slot : Slot.Ticket) (out : Bytes) (known : StepsFrom Putting targets team slot) where
   -- What a put asks of the ticket.
   pub puts_next : (slot.kind ≡ Edit) × (slot.done < slot.n) × (claims_in slot ≡ false)
   puts_next =
@@ -64,7 +64,7 @@ module _ (words : Words) (targets : List Target) (team : ℕ) (slot : Slot.Ticke
         let below = puts_next.1 in
         edit_put (subst (λ told. Answered out told place output) (ap (λ (s : Slot.Ticket). Answer.Granted s.tries) is ∙ sym (ap told_put (eq-eqb (slot.done + 1) slot.n (omega (arith, over, below))))) answer)
 
-module _ (words : Words) (targets : List Target) (team : ℕ) (slot : Slot.Ticket) (out : Bytes) (known : StepsFrom GivingBack targets team slot out) where
+module _ (words : Words) (targets : List Target) (team : ℕ) (slot : Slot.Ticket) (out : Bytes) (known : StepsFrom GivingBack targets team slot) where
   -- What is given back is claimed, and one is not.
   pub next_claimed : (slot.done < slot.claimed) × (slot.claimed < slot.n)
   next_claimed = counts_there targets slot known.steps_in.made GivingBack known.phase_known

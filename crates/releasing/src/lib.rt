@@ -4,7 +4,7 @@
 ghost use Rattle.tickets.specs.declared.Phase.TheVariants.{Putting, GivingBack};
 ghost use Rattle.tickets.specs.Steps.{step_of};
 ghost use Rattle.tickets.specs.Table.{gathered};
-ghost use Rattle.replies.specs.Leaving.{StepsFrom, LeftBy};
+ghost use Rattle.replies.specs.Leaving.{StepsFromWithRoom, LeftBy};
 
 use replies::Left;
 use tickets::{StepAnswer, Target, Ticket, Tickets};
@@ -19,7 +19,7 @@ pub fn put(
     team: usize,
     out: &mut [u8],
 ) -> Left
-    requires { StepsFrom Putting targets.now team ticket out.old }
+    requires { StepsFromWithRoom Putting targets.now team ticket out.old }
     ensures { LeftBy (step_of book.old (gathered targets.now ticket) team) targets.now result.ticket book.new out.old result.written out.new }
 {
     let target = replies::target_at(targets, ticket.done);
@@ -40,7 +40,7 @@ pub fn give_back(
     team: usize,
     out: &mut [u8],
 ) -> Left
-    requires { StepsFrom GivingBack targets.now team ticket out.old }
+    requires { StepsFromWithRoom GivingBack targets.now team ticket out.old }
     ensures { LeftBy (step_of book.old (gathered targets.now ticket) team) targets.now result.ticket book.new out.old result.written out.new }
 {
     let target = replies::target_at(targets, ticket.done);

@@ -24,7 +24,7 @@ pub left_as : (result step : Stepped × Words) (targets : List Target) (slot : S
 left_as result step targets slot out place output is left answered =
     subst (λ s. LeftBy s targets slot result.1 out place output) is record { ticket_left = left; words_left = refl; answered = answered }
 
-module _ (phase : Phase) (words : Words) (targets : List Target) (team : ℕ) (slot : Slot.Ticket) (out : Bytes) (known : StepsFrom phase targets team slot out) where
+module _ (phase : Phase) (words : Words) (targets : List Target) (team : ℕ) (slot : Slot.Ticket) (out : Bytes) (known : StepsFrom phase targets team slot) where
   -- A step in a known phase is its swap, and what that found settles.
   pub step_made : (tried : SwapTried) (found : ℕ) (after : Words) (result : Stepped)
       → tried ≡ swap_tried_in phase words (standing targets slot) team

@@ -1,4 +1,4 @@
--- What is known where a step is made, and what it leaves.
+-- What is known where a step is made, what its code asks, and what it leaves.
 use Rattle.std.specs.Prelude.{ℕ, ◌-◌, ◌≤◌, ◌<◌, ◌≡◌, true, List, length}
 use Rattle.words.specs.Words.{Words, team_count}
 use Rattle.tickets.specs.declared.Phase.{Phase}
@@ -21,16 +21,25 @@ pub record RoomAt (out : Bytes) (at : ℕ) : Type 0 where
 abbrev pub Answered : Bytes → StepAnswer → ℕ → Bytes → Type 0
 Answered out answer count output = ◌≡◌ {A = ℕ × Bytes} (count, output) (written out (answer_frame (Answer.Step answer)))
 
--- What is known where a step is made: of the team, its slot and its ticket, and of the output, which has room for an answer.
-pub record StepsIn (targets : List Target) (team : ℕ) (slot : Slot.Ticket) (out : Bytes) : Type 0 where
+-- What is known where a step is made: of the team, its slot and its ticket.
+pub record StepsIn (targets : List Target) (team : ℕ) (slot : Slot.Ticket) : Type 0 where
   pub team_known : team < team_count
   pub made : well_made (gathered targets slot) ≡ true
+
+-- The same, of a ticket in a known phase.
+pub record StepsFrom (phase : Phase) (targets : List Target) (team : ℕ) (slot : Slot.Ticket) : Type 0 where
+  pub phase_known : phase_of slot ≡ phase
+  pub steps_in : StepsIn targets team slot
+
+-- What the code of a step asks: what is known where it is made, and an output that has room for an answer.
+pub record StepsWithRoom (targets : List Target) (team : ℕ) (slot : Slot.Ticket) (out : Bytes) : Type 0 where
+  pub steps_in : StepsIn targets team slot
   pub room : longest_answer ≤ length out
 
 -- The same, of a ticket in a known phase.
-pub record StepsFrom (phase : Phase) (targets : List Target) (team : ℕ) (slot : Slot.Ticket) (out : Bytes) : Type 0 where
-  pub phase_known : phase_of slot ≡ phase
-  pub steps_in : StepsIn targets team slot out
+pub record StepsFromWithRoom (phase : Phase) (targets : List Target) (team : ℕ) (slot : Slot.Ticket) (out : Bytes) : Type 0 where
+  pub steps_from : StepsFrom phase targets team slot
+  pub room : longest_answer ≤ length out
 
 -- What a step leaves: the ticket that its slot says, the words, and its answer.
 pub record LeftBy (result : Stepped × Words) (targets : List Target) (slot : Slot.Ticket) (words : Words) (out : Bytes) (count : ℕ) (output : Bytes) : Type 0 where

@@ -4,7 +4,7 @@
 ghost use Rattle.std.specs.Prelude.{◌≡◌, ◌<◌, length};
 ghost use Rattle.tickets.specs.Steps.{step_of, look_of};
 ghost use Rattle.tickets.specs.Table.{gathered};
-ghost use Rattle.replies.specs.Leaving.{StepsIn, LeftBy};
+ghost use Rattle.replies.specs.Leaving.{StepsWithRoom, LeftBy};
 
 use replies::Left;
 use tickets::{Phase, Target, Ticket, Tickets};
@@ -19,7 +19,7 @@ pub fn step(
     team: usize,
     out: &mut [u8],
 ) -> Left
-    requires { StepsIn targets.old team ticket out.old }
+    requires { StepsWithRoom targets.old team ticket out.old }
     ensures { LeftBy (step_of book.old (gathered targets.old ticket) team) targets.new result.ticket book.new out.old result.written out.new }
 {
     match ticket.phase() {

@@ -29,7 +29,7 @@ use Rattle.replies.proofs.Stepping.{step_left}
 use Rattle.views.proofs.Seeing.{standing_seen}
 
 -- A view that gives back names at most so many words.
-pub few_named : (words : Words) (targets : List Target) (team : ℕ) (slot : Slot.Ticket) (out : Bytes) → StepsFrom Viewed targets team slot out → slot.n ≤ most_named
+pub few_named : (words : Words) (targets : List Target) (team : ℕ) (slot : Slot.Ticket) (out : Bytes) → StepsFrom Viewed targets team slot → slot.n ≤ most_named
 few_named words targets team slot out known =
     let well = known.steps_in.made in
     let many = (well_made_parts (standing targets slot) (well_standing targets slot well)).many in
@@ -37,7 +37,7 @@ few_named words targets team slot out known =
     let (_, (most, _)) = split (leb 1 slot.n ∷ leb slot.n most_named ∷ []) (sym (ap (λ p. within 1 (most_of p) slot.n) phase) ∙ many) in
     leb-true _ _ most
 
-module _ (words : Words) (targets : List Target) (team : ℕ) (slot : Slot.Ticket) (out : Bytes) (known : StepsFrom Viewing targets team slot out) where
+module _ (words : Words) (targets : List Target) (team : ℕ) (slot : Slot.Ticket) (out : Bytes) (known : StepsFrom Viewing targets team slot) where
   -- The next target is the first not claimed.
   pub next_unclaimed : slot.claimed < slot.n
   next_unclaimed = (phase_tells slot Viewing known.phase_known).1.1
@@ -86,7 +86,7 @@ module _ (words : Words) (targets : List Target) (team : ℕ) (slot : Slot.Ticke
         ∙ ap (λ (t : Ticket). (view_claimed t found).ticket) (is_standing targets slot known.steps_in.made))
         (subst (λ (s : Slot.Ticket). Answered out (Answer.Claimed s.claimed) place output) is answer)
 
-module _ (words : Words) (targets : List Target) (team : ℕ) (slot : Slot.Ticket) (out : Bytes) (known : StepsFrom Viewed targets team slot out) where
+module _ (words : Words) (targets : List Target) (team : ℕ) (slot : Slot.Ticket) (out : Bytes) (known : StepsFrom Viewed targets team slot) where
   -- What is given back is claimed, and all is.
   pub next_claimed : (slot.done < slot.claimed) × (slot.claimed ≡ slot.n)
   next_claimed = counts_there targets slot known.steps_in.made Viewed known.phase_known

@@ -6,7 +6,7 @@ ghost use Rattle.words.specs.Words.{most_named};
 ghost use Rattle.tickets.specs.declared.Phase.TheVariants.{Viewing, Viewed};
 ghost use Rattle.tickets.specs.Steps.{value_noted, values_seen, step_of};
 ghost use Rattle.tickets.specs.Table.{target_room, noted_at, targets_of, gathered};
-ghost use Rattle.replies.specs.Leaving.{StepsFrom, LeftBy};
+ghost use Rattle.replies.specs.Leaving.{StepsFromWithRoom, LeftBy};
 
 use replies::Left;
 use tickets::{StepAnswer, Target, Ticket, Tickets, Values};
@@ -28,7 +28,7 @@ pub fn view_claim(
     team: usize,
     out: &mut [u8],
 ) -> Left
-    requires { StepsFrom Viewing targets.old team ticket out.old }
+    requires { StepsFromWithRoom Viewing targets.old team ticket out.old }
     ensures { LeftBy (step_of book.old (gathered targets.old ticket) team) targets.new result.ticket book.new out.old result.written out.new }
 {
     let target = replies::target_at(targets, ticket.claimed);
@@ -74,7 +74,7 @@ pub fn view_give_back(
     team: usize,
     out: &mut [u8],
 ) -> Left
-    requires { StepsFrom Viewed targets.now team ticket out.old }
+    requires { StepsFromWithRoom Viewed targets.now team ticket out.old }
     ensures { LeftBy (step_of book.old (gathered targets.now ticket) team) targets.now result.ticket book.new out.old result.written out.new }
 {
     let target = replies::target_at(targets, ticket.done);

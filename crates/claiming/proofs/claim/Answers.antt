@@ -7,11 +7,11 @@ use Rattle.claiming.proofs.claim.Goals as goal
 pub target_at-target-requires : goal.target_at-target-requires
 target_at-target-requires c =
     let args = c.args in
-    target_asked args.targets.now args.ticket c.requires.steps_in.made args.ticket.claimed (next_unclaimed args.book.now args.targets.now args.team args.ticket args.out.now c.requires)
+    target_asked args.targets.now args.ticket c.requires.steps_from.steps_in.made args.ticket.claimed (next_unclaimed args.book.now args.targets.now args.team args.ticket args.out.now c.requires.steps_from)
 
 pub claim-after-requires : goal.claim-after-requires
 claim-after-requires c =
-    (phase_tells c.args.ticket Claiming c.requires.phase_known).1
+    (phase_tells c.args.ticket Claiming c.requires.steps_from.phase_known).1
 
 pub returns-then-found-target : goal.returns-then-found-target
 returns-then-found-target c =
@@ -22,13 +22,13 @@ returns-then-found-target c =
     let after = c.claim-after in
     let left = c.leave in
     rw left.ensures.ticket
-    (edit_claims args.book.now args.targets.now args.team args.ticket args.out.now c.requires target.result mark.result swap.result.found swap.new.book after.result left.result.written left.new.out
+    (edit_claims args.book.now args.targets.now args.team args.ticket args.out.now c.requires.steps_from target.result mark.result swap.result.found swap.new.book after.result left.result.written left.new.out
     target.ensures.target mark.ensures swap.ensures.found swap.ensures.words c.if-found-target.true after.ensures.slot left.ensures.answer)
 
 pub missed-requires : goal.missed-requires
 missed-requires c =
     let args = c.args in
-    (misses_in args.book.now args.targets.now args.team args.ticket args.out.now c.requires, c.requires.steps_in.room)
+    (misses_in args.book.now args.targets.now args.team args.ticket args.out.now c.requires.steps_from, c.requires.room)
 
 pub returns : goal.returns
 returns c =
@@ -36,5 +36,5 @@ returns c =
     let mark = c.mark-mark in
     let target = c.target_at-target in
     let args = c.args in
-    edit_misses args.book.now args.targets.now args.team args.ticket args.out.now c.requires target.result mark.result c.conditional_swap-found.result.found c.conditional_swap-found.new.book c.missed.result.ticket c.missed.result.written c.missed.new.out
+    edit_misses args.book.now args.targets.now args.team args.ticket args.out.now c.requires.steps_from target.result mark.result c.conditional_swap-found.result.found c.conditional_swap-found.new.book c.missed.result.ticket c.missed.result.written c.missed.new.out
     target.ensures.target mark.ensures c.conditional_swap-found.ensures.found c.conditional_swap-found.ensures.words other c.missed.ensures

@@ -41,8 +41,10 @@ step-requires c =
     let targets = c.args.targets.now in
     let stands = sym c.stands.ensures ∙ c.if-not-stands.false in
     record {
-      team_known = c.requires.0;
-      made = passes_made targets c.args.ticket true stands (sym c.known_well_made.ensures ∙ c.if-not-known_well_made.false);
+      steps_in = record {
+        team_known = c.requires.0;
+        made = passes_made targets c.args.ticket true stands (sym c.known_well_made.ensures ∙ c.if-not-known_well_made.false);
+      };
       room = c.requires.3;
     }
 

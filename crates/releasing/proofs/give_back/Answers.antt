@@ -8,12 +8,12 @@ use Rattle.releasing.proofs.give_back.Goals as goal
 pub target_at-target-requires : goal.target_at-target-requires
 target_at-target-requires c =
     let args = c.args in
-    target_asked args.targets.now args.ticket c.requires.steps_in.made args.ticket.done (omega (arith, next_claimed args.book.now args.targets.now args.team args.ticket args.out.now c.requires))
+    target_asked args.targets.now args.ticket c.requires.steps_from.steps_in.made args.ticket.done (omega (arith, next_claimed args.book.now args.targets.now args.team args.ticket args.out.now c.requires.steps_from))
 
 pub give_back-after-requires : goal.give_back-after-requires
 give_back-after-requires c =
     let args = c.args in
-    let (below, some) = next_claimed args.book.now args.targets.now args.team args.ticket args.out.now c.requires in
+    let (below, some) = next_claimed args.book.now args.targets.now args.team args.ticket args.out.now c.requires.steps_from in
     (below, omega (arith, some))
 
 pub returns-then-stands : goal.returns-then-stands
@@ -23,13 +23,13 @@ returns-then-stands c =
     let after = c.give_back-after in
     let left = c.leave in
     rw left.ensures.ticket
-    (edit_returns args.book.now args.targets.now args.team args.ticket args.out.now c.requires target.result c.release.new.book after.result left.result.written left.new.out
+    (edit_returns args.book.now args.targets.now args.team args.ticket args.out.now c.requires.steps_from target.result c.release.new.book after.result left.result.written left.new.out
     target.ensures.target c.release.ensures after.ensures.slot (sym c.stands.ensures ∙ c.if-stands.true) left.ensures.answer)
 
 pub target_at-differed-requires : goal.target_at-differed-requires
 target_at-differed-requires c =
     let args = c.args in
-    target_asked args.targets.now args.ticket c.requires.steps_in.made args.ticket.claimed (next_claimed args.book.now args.targets.now args.team args.ticket args.out.now c.requires).1
+    target_asked args.targets.now args.ticket c.requires.steps_from.steps_in.made args.ticket.claimed (next_claimed args.book.now args.targets.now args.team args.ticket args.out.now c.requires.steps_from).1
 
 pub returns : goal.returns
 returns c =
@@ -39,5 +39,5 @@ returns c =
     let after = c.give_back-after in
     let left = c.leave-2 in
     rw left.ensures.ticket
-    (edit_stale args.book.now args.targets.now args.team args.ticket args.out.now c.requires target.result c.release.new.book after.result left.result.written left.new.out
+    (edit_stale args.book.now args.targets.now args.team args.ticket args.out.now c.requires.steps_from target.result c.release.new.book after.result left.result.written left.new.out
     target.ensures.target c.release.ensures after.ensures.slot differed.result (sym c.stands.ensures ∙ c.if-stands.false) differed.ensures.target left.ensures.answer)

@@ -7,12 +7,12 @@ use Rattle.releasing.proofs.put.Goals as goal
 pub target_at-target-requires : goal.target_at-target-requires
 target_at-target-requires c =
     let args = c.args in
-    target_asked args.targets.now args.ticket c.requires.steps_in.made args.ticket.done (puts_next args.book.now args.targets.now args.team args.ticket args.out.now c.requires).1
+    target_asked args.targets.now args.ticket c.requires.steps_from.steps_in.made args.ticket.done (puts_next args.book.now args.targets.now args.team args.ticket args.out.now c.requires.steps_from).1
 
 pub put-after-requires : goal.put-after-requires
 put-after-requires c =
     let args = c.args in
-    puts_next args.book.now args.targets.now args.team args.ticket args.out.now c.requires
+    puts_next args.book.now args.targets.now args.team args.ticket args.out.now c.requires.steps_from
 
 pub returns-then-stands : goal.returns-then-stands
 returns-then-stands c =
@@ -21,7 +21,7 @@ returns-then-stands c =
     let after = c.put-after in
     let left = c.leave in
     rw left.ensures.ticket
-    (edit_puts args.book.now args.targets.now args.team args.ticket args.out.now c.requires target.result c.release.new.book after.result left.result.written left.new.out
+    (edit_puts args.book.now args.targets.now args.team args.ticket args.out.now c.requires.steps_from target.result c.release.new.book after.result left.result.written left.new.out
     target.ensures.target c.release.ensures after.ensures.slot (sym c.stands.ensures ∙ c.if-stands.true) left.ensures.answer)
 
 pub returns : goal.returns
@@ -31,5 +31,5 @@ returns c =
     let after = c.put-after in
     let left = c.leave-2 in
     rw left.ensures.ticket
-    (edit_granted args.book.now args.targets.now args.team args.ticket args.out.now c.requires target.result c.release.new.book after.result left.result.written left.new.out
+    (edit_granted args.book.now args.targets.now args.team args.ticket args.out.now c.requires.steps_from target.result c.release.new.book after.result left.result.written left.new.out
     target.ensures.target c.release.ensures after.ensures.slot (sym c.stands.ensures ∙ c.if-stands.false) left.ensures.answer)

@@ -7,4 +7,4 @@ use Rattle.steps.proofs.step.Goals as goal
 pub unreachable-requires : goal.unreachable-requires
 unreachable-requires c =
     let args = c.args in
-    counts_there args.targets.now args.ticket c.requires.made NoTicket (sym c.phase.ensures ∙ c.in-NoTicket.is)
+    counts_there args.targets.now args.ticket c.requires.steps_in.made NoTicket (sym c.phase.ensures ∙ c.in-NoTicket.is)

@@ -8,13 +8,13 @@ use Rattle.views.proofs.view_give_back.Goals as goal
 pub target_at-target-requires : goal.target_at-target-requires
 target_at-target-requires c =
     let args = c.args in
-    let claimed = next_claimed args.book.now args.targets.now args.team args.ticket args.out.now c.requires in
-    target_asked args.targets.now args.ticket c.requires.steps_in.made args.ticket.done (omega (arith, claimed))
+    let claimed = next_claimed args.book.now args.targets.now args.team args.ticket args.out.now c.requires.steps_from in
+    target_asked args.targets.now args.ticket c.requires.steps_from.steps_in.made args.ticket.done (omega (arith, claimed))
 
 pub give_back-after-requires : goal.give_back-after-requires
 give_back-after-requires c =
     let args = c.args in
-    let claimed = next_claimed args.book.now args.targets.now args.team args.ticket args.out.now c.requires in
+    let claimed = next_claimed args.book.now args.targets.now args.team args.ticket args.out.now c.requires.steps_from in
     (claimed.0, omega (arith, claimed.1))
 
 pub returns-then-stands : goal.returns-then-stands
@@ -24,13 +24,13 @@ returns-then-stands c =
     let after = c.give_back-after in
     let left = c.leave in
     rw left.ensures.ticket
-    (view_returns args.book.now args.targets.now args.team args.ticket args.out.now c.requires target.result c.release.new.book after.result left.result.written left.new.out
+    (view_returns args.book.now args.targets.now args.team args.ticket args.out.now c.requires.steps_from target.result c.release.new.book after.result left.result.written left.new.out
     target.ensures.target c.release.ensures after.ensures.slot (sym c.stands.ensures ∙ c.if-stands.true) left.ensures.answer)
 
 pub values_seen-seen-requires : goal.values_seen-seen-requires
 values_seen-seen-requires c =
     let args = c.args in
-    few_named args.book.now args.targets.now args.team args.ticket args.out.now c.requires
+    few_named args.book.now args.targets.now args.team args.ticket args.out.now c.requires.steps_from
 
 pub returns : goal.returns
 returns c =
@@ -40,5 +40,5 @@ returns c =
     let after = c.give_back-after in
     let left = c.leave-2 in
     rw left.ensures.ticket
-    (view_sees args.book.now args.targets.now args.team args.ticket args.out.now c.requires target.result c.release.new.book after.result left.result.written left.new.out
+    (view_sees args.book.now args.targets.now args.team args.ticket args.out.now c.requires.steps_from target.result c.release.new.book after.result left.result.written left.new.out
     target.ensures.target c.release.ensures after.ensures.slot seen.result (sym c.stands.ensures ∙ c.if-stands.false) seen.ensures left.ensures.answer)
