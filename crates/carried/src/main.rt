@@ -164,7 +164,8 @@ mod tests {
     use super::*;
     use std::io;
 
-    // Both calls succeed where standard output takes what is written, which no clause says of the first.
+    // Both calls succeed where standard output takes what is written, which no clause says of the first. The test stands in this crate and
+    // not in `desk`, since this one has no edits.
     #[test]
     fn tells_changes(rt: HostRuntime) -> io::Result<()> {
         let before = [3, 7, 9];

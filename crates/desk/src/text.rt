@@ -45,7 +45,7 @@ impl Display for Bytes<'_> {
     }
 }
 
-// A line for each word that has changed, up to a write that fails.
+// A line for each word that has changed, up to a write that fails, for a caller that has to know of it. No clause says what is written.
 pub fn tell_changes(stdout: Stdout, before: &[u64], after: &[u64]) -> io::Result<()>
     ensures { before.now ≡ after.now → IsOk result }
 {

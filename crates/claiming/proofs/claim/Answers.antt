@@ -7,7 +7,8 @@ use Rattle.claiming.proofs.claim.Goals as goal
 pub target_at-target-requires : goal.target_at-target-requires
 target_at-target-requires c =
     let args = c.args in
-    target_asked args.targets.now args.ticket c.requires.steps_from.steps_in.made args.ticket.claimed (next_unclaimed args.book.now args.targets.now args.team args.ticket args.out.now c.requires.steps_from)
+    let known = c.requires.steps_from in
+    target_asked args.targets.now args.ticket known.steps_in.made args.ticket.claimed (next_unclaimed args.book.now args.targets.now args.team args.ticket args.out.now known)
 
 pub claim-after-requires : goal.claim-after-requires
 claim-after-requires c =

@@ -8,7 +8,8 @@ use Rattle.releasing.proofs.give_back.Goals as goal
 pub target_at-target-requires : goal.target_at-target-requires
 target_at-target-requires c =
     let args = c.args in
-    target_asked args.targets.now args.ticket c.requires.steps_from.steps_in.made args.ticket.done (omega (arith, next_claimed args.book.now args.targets.now args.team args.ticket args.out.now c.requires.steps_from))
+    let known = c.requires.steps_from in
+    target_asked args.targets.now args.ticket known.steps_in.made args.ticket.done (omega (arith, next_claimed args.book.now args.targets.now args.team args.ticket args.out.now known))
 
 pub give_back-after-requires : goal.give_back-after-requires
 give_back-after-requires c =
@@ -29,7 +30,8 @@ returns-then-stands c =
 pub target_at-differed-requires : goal.target_at-differed-requires
 target_at-differed-requires c =
     let args = c.args in
-    target_asked args.targets.now args.ticket c.requires.steps_from.steps_in.made args.ticket.claimed (next_claimed args.book.now args.targets.now args.team args.ticket args.out.now c.requires.steps_from).1
+    let known = c.requires.steps_from in
+    target_asked args.targets.now args.ticket known.steps_in.made args.ticket.claimed (next_claimed args.book.now args.targets.now args.team args.ticket args.out.now known).1
 
 pub returns : goal.returns
 returns c =

@@ -7,7 +7,8 @@ use Rattle.releasing.proofs.put.Goals as goal
 pub target_at-target-requires : goal.target_at-target-requires
 target_at-target-requires c =
     let args = c.args in
-    target_asked args.targets.now args.ticket c.requires.steps_from.steps_in.made args.ticket.done (puts_next args.book.now args.targets.now args.team args.ticket args.out.now c.requires.steps_from).1
+    let known = c.requires.steps_from in
+    target_asked args.targets.now args.ticket known.steps_in.made args.ticket.done (puts_next args.book.now args.targets.now args.team args.ticket args.out.now known).1
 
 pub put-after-requires : goal.put-after-requires
 put-after-requires c =

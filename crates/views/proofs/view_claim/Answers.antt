@@ -9,8 +9,9 @@ use Rattle.views.proofs.view_claim.Goals as goal
 pub target_at-target-requires : goal.target_at-target-requires
 target_at-target-requires c =
     let args = c.args in
-    let unclaimed = next_unclaimed args.book.now args.targets.now args.team args.ticket args.out.now c.requires.steps_from in
-    target_asked args.targets.now args.ticket c.requires.steps_from.steps_in.made args.ticket.claimed unclaimed
+    let known = c.requires.steps_from in
+    let unclaimed = next_unclaimed args.book.now args.targets.now args.team args.ticket args.out.now known in
+    target_asked args.targets.now args.ticket known.steps_in.made args.ticket.claimed unclaimed
 
 pub returns-then-is_held : goal.returns-then-is_held
 returns-then-is_held c =
@@ -24,8 +25,9 @@ returns-then-is_held c =
 pub note-requires : goal.note-requires
 note-requires c =
     let args = c.args in
-    let unclaimed = next_unclaimed args.book.now args.targets.now args.team args.ticket args.out.now c.requires.steps_from in
-    omega (arith, unclaimed, few_targets args.targets.now args.ticket c.requires.steps_from.steps_in.made)
+    let known = c.requires.steps_from in
+    let unclaimed = next_unclaimed args.book.now args.targets.now args.team args.ticket args.out.now known in
+    omega (arith, unclaimed, few_targets args.targets.now args.ticket known.steps_in.made)
 
 pub claim-after-requires : goal.claim-after-requires
 claim-after-requires c =
@@ -39,9 +41,10 @@ returns c =
     let after = c.claim-after in
     let left = c.leave in
     let args = c.args in
+    let known = c.requires.steps_from in
     let targets = args.targets.now in
-    let unclaimed = next_unclaimed args.book.now targets args.team args.ticket args.out.now c.requires.steps_from in
-    let few = few_targets targets args.ticket c.requires.steps_from.steps_in.made in
+    let unclaimed = next_unclaimed args.book.now targets args.team args.ticket args.out.now known in
+    let few = few_targets targets args.ticket known.steps_in.made in
     rw left.ensures.ticket
-    (view_notes args.book.now targets args.team args.ticket args.out.now c.requires.steps_from target.result mark.result swap.result.found swap.new.book after.result left.result.written left.new.out
+    (view_notes args.book.now targets args.team args.ticket args.out.now known target.result mark.result swap.result.found swap.new.book after.result left.result.written left.new.out
     target.ensures.target mark.ensures swap.ensures.found swap.ensures.words c.note.new.targets (sym c.is_held.ensures ∙ c.if-is_held.false) (omega (arith, unclaimed, few, c.told-targets)) c.note.ensures after.ensures.slot left.ensures.answer)

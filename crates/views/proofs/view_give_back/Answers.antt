@@ -8,8 +8,9 @@ use Rattle.views.proofs.view_give_back.Goals as goal
 pub target_at-target-requires : goal.target_at-target-requires
 target_at-target-requires c =
     let args = c.args in
-    let claimed = next_claimed args.book.now args.targets.now args.team args.ticket args.out.now c.requires.steps_from in
-    target_asked args.targets.now args.ticket c.requires.steps_from.steps_in.made args.ticket.done (omega (arith, claimed))
+    let known = c.requires.steps_from in
+    let claimed = next_claimed args.book.now args.targets.now args.team args.ticket args.out.now known in
+    target_asked args.targets.now args.ticket known.steps_in.made args.ticket.done (omega (arith, claimed))
 
 pub give_back-after-requires : goal.give_back-after-requires
 give_back-after-requires c =
